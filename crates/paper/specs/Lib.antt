@@ -1,0 +1,11 @@
+pub mod Lists
+pub mod Counting
+pub mod Sheet
+pub mod Step
+pub mod Clauses
+pub mod Circuit
+pub mod Operations
+pub mod Answers
+pub mod Sets
+pub mod Meaning
+pub mod View
