@@ -84,3 +84,8 @@ module _ {A : Type 0} (p : A → Bool) where
       cases : (b : Bool) → (all q (cond b (x ∷ filter p xs) (filter p xs)) && all q (cond (not b) (x ∷ filter (λ x. not (p x)) xs) (filter (λ x. not (p x)) xs))) ≡ (q x && (all q (filter p xs) && all q (filter (λ x. not (p x)) xs)))
       cases true = sym (and-join (q x) (all q (filter p xs)) (all q (filter (λ x. not (p x)) xs)))
       cases false = and-swap (all q (filter p xs)) (q x) (all q (filter (λ x. not (p x)) xs))
+
+-- every member has it
+unfoldable pub Every : {A : Type 0} → (A → Type 0) → List A → Type 0
+Every P [] = Unit {0}
+Every P (x ∷ xs) = P x × Every P xs

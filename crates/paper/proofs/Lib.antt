@@ -29,3 +29,14 @@ pub mod Decoded
 pub mod Tidy
 pub mod Size
 pub mod Demand3
+pub mod Again
+pub mod Keys
+pub mod Memory
+pub mod PartKey
+pub mod Limits
+pub mod Mono
+pub mod Search
+pub mod FirstSchedule
+pub mod Loop
+pub mod Passes
+pub mod Permitted

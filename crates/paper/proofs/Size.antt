@@ -1,9 +1,9 @@
--- How many clauses and literals T(P) has at most: 6,896 and 18,720, the bounds of request E2. Assumes nothing.
+-- How many variables, clauses and literals T(P) has at most: 396, 6,896 and 18,720, the bounds of request E2. Assumes nothing.
 use mathlib.Core.Path.{_≡_, refl}
 use mathlib.Core.Bool.{Bool, true, false, not, _&&_}
 use mathlib.Core.List.{List, [], _∷_, _++_, map}
 use Prim.Native.Nat.{ℕ, zero, suc, _+_, _-_, _*_, _≤_, _<_}
-use native.Mathlib.Nat.{suc-mul}
+use native.Mathlib.Nat.{suc-mul, mul-le-mul-right}
 use native.Mathlib.Omega.{arith}
 use lib.Dec.{ltb}
 use lib.ListN.{length, length-map, length-append}
@@ -15,7 +15,7 @@ use Rattle.paper.specs.Lists.{filter, only, each, upFrom}
 use Rattle.paper.specs.Counting.{bit, overlap, before, after}
 use Rattle.paper.specs.Sheet.{Masks, Sheet, goodNeed, Fine}
 use Rattle.paper.specs.Step.{needOf, ruleOf}
-use Rattle.paper.specs.Clauses.{Clause, Clauses, yes·, no·, neg, fact, action, z, facts, actions, ruleNos, literals, atMoment, needClauses, zClauses, effectClauses, exclusions, frames, stepClauses, theoryOf}
+use Rattle.paper.specs.Clauses.{Clause, Clauses, yes·, no·, neg, fact, action, z, facts, actions, ruleNos, literals, atMoment, needClauses, zClauses, effectClauses, exclusions, frames, stepClauses, theoryOf, variables, stride}
 use Rattle.paper.specs.Circuit.{lits}
 use Rattle.paper.proofs.Basic.{never, and-e, and-i, by, not-t}
 use Rattle.paper.proofs.Any.{filter-le}
@@ -235,3 +235,13 @@ theory-size ex p fine n l =
     let e = total-ones (theoryOf p ex n) in
     let f = total-lits (theoryOf p ex n) in
     (omega arith, omega arith)
+
+-- V is at most 396
+pub variables-most : (p : Sheet) → Fine p → (n : ℕ) → n ≤ 8 → variables p n ≤ 396
+unfolding variables stride
+variables-most p fine n l =
+    let a = fine .facts-most in
+    let b = fine .actions-most in
+    let c = fine .rules-most in
+    let d : n * stride p ≤ 8 * stride p = mul-le-mul-right (stride p) l in
+    omega arith

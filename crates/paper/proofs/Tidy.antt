@@ -16,14 +16,9 @@ use Rattle.paper.specs.Sheet.{Rule, Masks, Sheet, fits, goodPair, goodRu
 use Rattle.paper.specs.Step.{needOf, ruleOf}
 use Rattle.paper.specs.Clauses.{Clause, Clauses, yes·, no·, neg, stride, fact, action, z, variables, facts, actions, ruleNos, literals, atMoment, needClauses, zClauses, effectClauses, exclusions, frames, stepClauses, theoryOf}
 use Rattle.paper.specs.Circuit.{varsC, vars}
-use Rattle.paper.proofs.Basic.{never, and-e, by, not-true, not-t, or-e, eqb-t, any-append}
+use Rattle.paper.proofs.Basic.{Every, never, and-e, by, not-true, not-t, or-e, eqb-t, any-append}
 use Rattle.paper.proofs.Lists.{all-getD, some-i}
 use Rattle.paper.proofs.OneStep.{rule-act}
-
--- ---- every element
-unfoldable pub Every : {A : Type 0} → (A → Type 0) → List A → Type 0
-Every P [] = Unit {0}
-Every P (x ∷ xs) = P x × Every P xs
 
 module _ {A : Type 0} (P : A → Type 0) where
   every-append : (xs ys : List A) → Every P xs → Every P ys → Every P (xs ++ ys)
@@ -303,3 +298,22 @@ every-vars hi y (c ∷ S) h e = or-e (elem y (varsC c)) (elem y (vars S)) (sym (
 
 pub theory-vars : (ex : ℕ → ℕ → Bool) (p : Sheet) → Fine p → (n y : ℕ) → elem y (vars (theoryOf p ex n)) ≡ true → (0 < y) × (y ≤ variables p n)
 theory-vars ex p fine n y e = every-vars (variables p n) y (theoryOf p ex n) (theory-tidy ex p fine n) e
+
+-- ---- no clause repeats a literal: each variable stands once
+abbrev pub Once : Clause → Type 0
+Once [] = Unit {0}
+Once (l ∷ c) = (elem (l .var) (varsC c) ≡ false) × Once c
+
+span-once : (lo hi : ℕ) (c : Clause) → Span lo hi c → Once c
+unfolding Span
+span-once lo hi [] h = tt
+span-once lo hi (l ∷ c) h =
+    (not-true (λ e. let k = span-vars (l .var) hi (l .var) c (h .1) e in omega arith), span-once (l .var) hi c (h .1))
+
+every-once : (hi : ℕ) (S : Clauses) → Every (Span 0 hi) S → Every Once S
+unfolding Every
+every-once hi [] h = tt
+every-once hi (c ∷ S) h = (span-once 0 hi c (h .0), every-once hi S (h .1))
+
+pub theory-once : (ex : ℕ → ℕ → Bool) (p : Sheet) → Fine p → (n : ℕ) → Every Once (theoryOf p ex n)
+theory-once ex p fine n = every-once (variables p n) (theoryOf p ex n) (theory-tidy ex p fine n)

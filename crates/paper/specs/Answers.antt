@@ -157,7 +157,7 @@ tableFor b n = onSheet (λ f. []) (λ p. compile (theory p n) .table) (decode b)
 
 unfoldable pub compileLeft : List ℕ → ℕ → ℕ → List ℕ → List ℕ → LeftRows
 compileLeft b n limit buf slice =
-    let a = compileOf b n limit buf in
+    let a = compileOf b n limit (room buf) in
     let t = tableFor b n in
     record { code = compileCode a; answer = told (compileNumbers n a) slice; rows = compileRows t buf a }
 
@@ -167,7 +167,7 @@ judgeLeft b n buf k root s masks slice =
 
 unfoldable pub planLeft : List ℕ → ℕ → List ℕ → List ℕ → List ℕ → LeftPlan
 planLeft b limit buf sch slice =
-    let o = planOf b limit buf sch in
+    let o = planOf b limit (room buf) (length sch) in
     let a = o .answer in
     record { code = planCode a; answer = told (planNumbers a) slice; rows = planRows buf o a; schedule = planSchedule sch o a }
 

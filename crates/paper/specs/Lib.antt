@@ -9,3 +9,6 @@ pub mod Answers
 pub mod Sets
 pub mod Meaning
 pub mod View
+pub mod Memory
+pub mod Limits
+pub mod Search

@@ -70,12 +70,12 @@ rowBytes r = each (rowNumbers r) bytes4
 unfoldable pub room : List ℕ → ℕ
 room buf = min (length buf / rowSize) 65536
 
--- ---- compile: horizon 0..8, effort limit, row buffer
+-- ---- compile: horizon 0..8, effort limit, room
 abbrev pub compileSheet : ℕ → ℕ → ℕ → Sheet → Compiled
 compileSheet n limit k p = cond (leb n 8) (Compiled.Answered (builtOf limit k (theory p n))) (Compiled.Refused BadCall)
 
-unfoldable pub compileOf : List ℕ → ℕ → ℕ → List ℕ → Compiled
-compileOf b n limit buf = onSheet Compiled.Refused (compileSheet n limit (room buf)) (decode b)
+unfoldable pub compileOf : List ℕ → ℕ → ℕ → ℕ → Compiled
+compileOf b n limit k = onSheet Compiled.Refused (compileSheet n limit k) (decode b)
 
 -- ---- judge: the value of a row table at a state and masks of actions
 module _ (p : Sheet) (n : ℕ) where
@@ -222,13 +222,14 @@ abbrev pub planStarts : ℕ → Outcome → Outcome
 planStarts zero o = stopped (Planned.Refused NoStart)
 planStarts (suc n) o = o
 
--- the schedule buffer is as long as H at least
+-- a schedule buffer of fewer than H bytes is refused
 abbrev pub planSheet : ℕ → ℕ → ℕ → Sheet → Outcome
-planSheet limit k room p =
-    let o = planFrom p limit k (p .H) 0 in cond (leb (p .H) room) (planStarts (startCount p) o) (stopped (Planned.Refused ShortSchedule))
+planSheet limit k bytes p =
+    let o = planFrom p limit k (p .H) 0 in cond (leb (p .H) bytes) (planStarts (startCount p) o) (stopped (Planned.Refused ShortSchedule))
 
-unfoldable pub planOf : List ℕ → ℕ → List ℕ → List ℕ → Outcome
-planOf b limit buf sch = onSheet (λ f. stopped (Planned.Refused f)) (planSheet limit (room buf) (length sch)) (decode b)
+-- effort limit, room, bytes of the schedule buffer
+unfoldable pub planOf : List ℕ → ℕ → ℕ → ℕ → Outcome
+planOf b limit k bytes = onSheet (λ f. stopped (Planned.Refused f)) (planSheet limit k bytes) (decode b)
 
 -- a proof by computation says `unfolding computed-Operations`, which opens every definition of this module
 unfoldable pub computed-Operations : ℕ
