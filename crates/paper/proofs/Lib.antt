@@ -40,3 +40,4 @@ pub mod FirstSchedule
 pub mod Loop
 pub mod Passes
 pub mod Permitted
+pub mod Buffers

@@ -210,18 +210,7 @@ any-counts n f g e = bool-same (any f (upFrom 0 n)) (any g (upFrom 0 n))
     (λ h. any-w0 f n h (λ k l d. any-i0 g n k l (sym (e k l) ∙ d)))
     (λ h. any-w0 g n h (λ k l d. any-i0 f n k l (e k l ∙ d)))
 
-pub any-shift : (h : ℕ → Bool) (n i : ℕ) → any h (upFrom (suc i) n) ≡ any (λ j. h (suc j)) (upFrom i n)
-unfolding upFrom
-any-shift h zero i = refl
-any-shift h (suc n) i = rw (add-one, add-one) (rw (any-shift h n (suc i)))
-
--- a list by its numbers
 module _ {A : Type 0} where
-  pub any-numbered : (f : A → Bool) (d : A) (xs : List A) → any f xs ≡ any (λ i. f (getD xs i d)) (upFrom 0 (length xs))
-  unfolding upFrom
-  any-numbered f d [] = refl
-  any-numbered f d (x ∷ xs) = rw (any-numbered f d xs) (ap (λ b. f x || b) (sym (any-shift (λ i. f (getD (x ∷ xs) i d)) (length xs) 0)))
-
   -- an element of a list whose elements all pass
   pub all-getD : (f : A → Bool) (d : A) (xs : List A) → all f xs ≡ true → (i : ℕ) → i < length xs → f (getD xs i d) ≡ true
   all-getD f d [] h i l = absurd (omega arith)

@@ -50,10 +50,3 @@ module _ (f g : Lit → Bool) (le : (l : Lit) → f l ≡ true → g l ≡ true)
   pub at-mono : (t : Table) (i : ℕ) → valueAt f t i ≡ true → valueAt g t i ≡ true
   unfolding valueAt values
   at-mono t i k = le-get (valuesOn f [] t) (valuesOn g [] t) (on-mono t [] [] tt) i k
-
--- fewer variables kept, and the same values for these: more literals true
-pub shown-mono : (kept less : ℕ → Bool) (k v : Assign) → ((x : ℕ) → less x ≡ true → kept x ≡ true) → ((x : ℕ) → less x ≡ true → k x ≡ v x)
-    → (l : Lit) → shown kept k l ≡ true → shown less v l ≡ true
-shown-mono kept less k v s e l h = by (less (l .var))
-    (λ q. or-r (not (less (l .var))) (sym (ap (λ b. Bool·beq b (l .sign)) (e (l .var) q)) ∙ or-e (not (kept (l .var))) (holds k l) h (λ n. never n (ap not (s (l .var) q))) (λ n. n)))
-    (λ q. or-l (holds v l) (ap not q))
