@@ -18,6 +18,9 @@ two-pos = zero-lt-suc 1
 pub bit-high : (n m k : ℕ) → m < 2 ^ n → n ≤ k → bit m k ≡ false
 bit-high n m k h l = let q : m < 2 ^ k = lt-of-lt-of-le h (pow-mono l) in ap (λ (x : ℕ). eqb (x % 2) 1) (div-eq-of-lt q)
 
+pub bit-nil : (k : ℕ) → bit 0 k ≡ false
+bit-nil k = bit-high 0 0 k (omega arith) (omega arith)
+
 pub bit-suc : (m k : ℕ) → bit m (suc k) ≡ bit (m / 2) k
 bit-suc m k = ap (λ (x : ℕ). eqb (x % 2) 1) (ap (λ (x : ℕ). m / 2 ^ x) (omega arith) ∙ sym (shr-shr m 1 k))
 

@@ -2,16 +2,16 @@
 use mathlib.Core.Path.{_≡_, refl, ap, _∙_, subst}
 use mathlib.Core.Bool.{Bool, true, false, not, _&&_}
 use mathlib.Core.List.{List, [], _∷_, _++_, map}
-use Prim.Native.Nat.{ℕ, zero, suc, _+_, _-_, _*_}
+use Prim.Native.Nat.{ℕ, zero, suc, _+_, _*_, _≤_}
 use native.Mathlib.Omega.{arith}
-use lib.Dec.{leb}
+use lib.Dec.{eqb, leb}
 use lib.ListN.{length, length-map}
 use borrow.Author.Tests.{leb-true}
 use Rattle.paper.specs.declared.Fault.{Fault}
 use Rattle.paper.specs.declared.Fault.the-variants.{Unmarked, Unbounded, Disagrees}
 use Rattle.paper.specs.Lists.{all, filter, upFrom}
-use Rattle.paper.specs.Sheet.{Sheet, Trailer, trailer, marked, within, agrees, goodNeed, goodRule, goodMasks, needAt, ruleAt, masksAt, offsets, needsAt, rulesAt, startsAt, goalsAt, badRows, sheetOf, Decoded, decoded, unless, noRow, decode, Fine}
-use Rattle.paper.proofs.Basic.{and-e, by}
+use Rattle.paper.specs.Sheet.{Sheet, Trailer, trailer, marked, within, agrees, goodNeed, goodRule, goodMasks, needAt, ruleAt, masksAt, offsets, needsAt, rulesAt, startsAt, goalsAt, badRows, sheetOf, Decoded, decoded, unless, noRow, decode, Fine, bodyLength, trailerLength, bodyAt}
+use Rattle.paper.proofs.Basic.{and-e, by, eqb-t}
 use Rattle.paper.proofs.Lists.{all-map}
 
 unless-e : (ok : Bool) (f : Fault) (d : Decoded) (p : Sheet) → unless ok f d ≡ decoded p → (ok ≡ true) × (d ≡ decoded p)
@@ -42,32 +42,99 @@ rows-count : {A : Type 0} (f : ℕ → A) (o w n : ℕ) → length (map f (offse
 unfolding offsets
 rows-count f o w n = length-map (map (λ i. o + w * i) (upFrom 0 n)) f ∙ length-map (upFrom 0 n) (λ i. o + w * i) ∙ length-count n 0
 
-pub decoded-fine : (b : List ℕ) (p : Sheet) → decode b ≡ decoded p → Fine p
-unfolding decode badRows sheetOf within needsAt rulesAt startsAt goalsAt
-decoded-fine b p h =
+-- the counts are within their bounds
+pub record Bounded (t : Trailer) : Type 0 where
+  pub facts-least : 1 ≤ t .tF
+  pub facts-most : t .tF ≤ 12
+  pub actions-least : 1 ≤ t .tA
+  pub actions-most : t .tA ≤ 12
+  pub rules-most : t .tR ≤ 24
+  pub starts-most : t .tI ≤ 16
+  pub goals-most : t .tG ≤ 16
+  pub horizon-most : t .tH ≤ 8
+
+pub within-bounded : (t : Trailer) → within t ≡ true → Bounded t
+unfolding within
+within-bounded t h =
+    let w = and-e (leb 1 (t .tF) && leb (t .tF) 12) ((leb 1 (t .tA) && leb (t .tA) 12) && (leb (t .tR) 24 && (leb (t .tI) 16 && (leb (t .tG) 16 && leb (t .tH) 8)))) h in
+    let f = and-e (leb 1 (t .tF)) (leb (t .tF) 12) (w .0) in
+    let ga = and-e (leb 1 (t .tA) && leb (t .tA) 12) (leb (t .tR) 24 && (leb (t .tI) 16 && (leb (t .tG) 16 && leb (t .tH) 8))) (w .1) in
+    let a = and-e (leb 1 (t .tA)) (leb (t .tA) 12) (ga .0) in
+    let gr = and-e (leb (t .tR) 24) (leb (t .tI) 16 && (leb (t .tG) 16 && leb (t .tH) 8)) (ga .1) in
+    let gi = and-e (leb (t .tI) 16) (leb (t .tG) 16 && leb (t .tH) 8) (gr .1) in
+    let gg = and-e (leb (t .tG) 16) (leb (t .tH) 8) (gi .1) in
+    record {
+      facts-least = leb-true 1 (t .tF) (f .0);
+      facts-most = leb-true (t .tF) 12 (f .1);
+      actions-least = leb-true 1 (t .tA) (a .0);
+      actions-most = leb-true (t .tA) 12 (a .1);
+      rules-most = leb-true (t .tR) 24 (gr .0);
+      starts-most = leb-true (t .tI) 16 (gi .0);
+      goals-most = leb-true (t .tG) 16 (gg .0);
+      horizon-most = leb-true (t .tH) 8 (gg .1);
+    }
+
+-- what an accepted file is
+pub record Accepted (b : List ℕ) (p : Sheet) : Type 0 where
+  pub mark : marked b ≡ true
+  pub bounds : Bounded (trailer b)
+  pub back-is : trailer b .back ≡ bodyLength (trailer b)
+  pub length-is : length b ≡ trailer b .back + trailerLength
+  pub clear : badRows b (trailer b) ≡ []
+  pub sheet-is : sheetOf b (trailer b) ≡ p
+
+pub accepted : (b : List ℕ) (p : Sheet) → decode b ≡ decoded p → Accepted b p
+unfolding decode agrees
+accepted b p h =
     let t : Trailer = trailer b in
     let h1 = unless-e (marked b) Unmarked _ p h in
     let h2 = unless-e (within t) Unbounded _ p (h1 .1) in
     let h3 = unless-e (agrees b t) Disagrees _ p (h2 .1) in
     let h4 = row-e (badRows b t) (sheetOf b t) p (h3 .1) in
-    let w = and-e (leb 1 (t .tF) && leb (t .tF) 12) ((leb 1 (t .tA) && leb (t .tA) 12) && (leb (t .tR) 24 && (leb (t .tI) 16 && (leb (t .tG) 16 && leb (t .tH) 8)))) (h2 .0) in
-    let f = and-e (leb 1 (t .tF)) (leb (t .tF) 12) (w .0) in
-    let ga = and-e (leb 1 (t .tA) && leb (t .tA) 12) (leb (t .tR) 24 && (leb (t .tI) 16 && (leb (t .tG) 16 && leb (t .tH) 8))) (w .1) in
-    let gr = and-e (leb (t .tR) 24) (leb (t .tI) 16 && (leb (t .tG) 16 && leb (t .tH) 8)) (ga .1) in
-    let gi = and-e (leb (t .tI) 16) (leb (t .tG) 16 && leb (t .tH) 8) (gr .1) in
-    let gg = and-e (leb (t .tG) 16) (leb (t .tH) 8) (gi .1) in
-    let g4 = nil-e ((filter (λ o. not (goodNeed (t .tF) (needAt b o))) (needsAt b t) ++ filter (λ o. not (goodRule (t .tF) (t .tA) (ruleAt b o))) (rulesAt b t)) ++ filter (λ o. not (goodMasks (t .tF) (masksAt b o))) (startsAt b t)) _ (h4 .0) in
-    let g3 = nil-e (filter (λ o. not (goodNeed (t .tF) (needAt b o))) (needsAt b t) ++ filter (λ o. not (goodRule (t .tF) (t .tA) (ruleAt b o))) (rulesAt b t)) _ (g4 .0) in
-    let g2 = nil-e (filter (λ o. not (goodNeed (t .tF) (needAt b o))) (needsAt b t)) _ (g3 .0) in
-    subst Fine (h4 .1) (record {
-      facts-least = leb-true 1 (t .tF) (f .0);
-      facts-most = leb-true (t .tF) 12 (f .1);
-      actions-least = leb-true 1 (t .tA) (and-e (leb 1 (t .tA)) (leb (t .tA) 12) (ga .0) .0);
-      actions-most = leb-true (t .tA) 12 (and-e (leb 1 (t .tA)) (leb (t .tA) 12) (ga .0) .1);
-      rules-most = leb-true (t .tR) 24 (gr .0);
-      starts-most = rw (rows-count (masksAt b) _ 4 (t .tI)) (leb-true (t .tI) 16 (gi .0));
-      goals-most = rw (rows-count (masksAt b) _ 4 (t .tG)) (leb-true (t .tG) 16 (gg .0));
-      horizon-most = leb-true (t .tH) 8 (gg .1);
+    let g = and-e (eqb (t .back) (bodyLength t)) (eqb (length b) (t .back + trailerLength)) (h3 .0) in
+    record {
+      mark = h1 .0;
+      bounds = within-bounded t (h2 .0);
+      back-is = eqb-t (t .back) (bodyLength t) (g .0);
+      length-is = eqb-t (length b) (t .back + trailerLength) (g .1);
+      clear = h4 .0;
+      sheet-is = h4 .1;
+    }
+
+-- the longest sheet has 432 bytes
+pub decoded-length : (b : List ℕ) (p : Sheet) → decode b ≡ decoded p → length b ≤ 432
+unfolding bodyLength
+decoded-length b p h =
+    let a = accepted b p h in
+    let w = a .bounds in
+    omega arith
+
+-- the body begins where the file begins
+pub decoded-body : (b : List ℕ) (p : Sheet) → decode b ≡ decoded p → bodyAt b (trailer b) ≡ 0
+unfolding bodyAt
+decoded-body b p h = let a = accepted b p h in omega arith
+
+pub decoded-fine : (b : List ℕ) (p : Sheet) → decode b ≡ decoded p → Fine p
+unfolding badRows sheetOf needsAt rulesAt startsAt goalsAt
+decoded-fine b p h =
+    let t : Trailer = trailer b in
+    let a = accepted b p h in
+    let w = a .bounds in
+    let needs : List ℕ = filter (λ o. not (goodNeed (t .tF) (needAt b o))) (needsAt b t) in
+    let rules : List ℕ = filter (λ o. not (goodRule (t .tF) (t .tA) (ruleAt b o))) (rulesAt b t) in
+    let starts : List ℕ = filter (λ o. not (goodMasks (t .tF) (masksAt b o))) (startsAt b t) in
+    let g4 = nil-e ((needs ++ rules) ++ starts) _ (a .clear) in
+    let g3 = nil-e (needs ++ rules) starts (g4 .0) in
+    let g2 = nil-e needs rules (g3 .0) in
+    subst Fine (a .sheet-is) (record {
+      facts-least = w .facts-least;
+      facts-most = w .facts-most;
+      actions-least = w .actions-least;
+      actions-most = w .actions-most;
+      rules-most = w .rules-most;
+      starts-most = rw (rows-count (masksAt b) _ 4 (t .tI)) (w .starts-most);
+      goals-most = rw (rows-count (masksAt b) _ 4 (t .tG)) (w .goals-most);
+      horizon-most = w .horizon-most;
       needs-count = rows-count (needAt b) _ 4 (t .tA);
       rules-count = rows-count (ruleAt b) _ 10 (t .tR);
       needs-fine = all-map (goodNeed (t .tF)) (needAt b) (needsAt b t) ∙ none-fails (λ o. goodNeed (t .tF) (needAt b o)) (needsAt b t) (g2 .0);

@@ -25,28 +25,10 @@ use Rattle.paper.proofs.Tidy.{theory-vars}
 use Rattle.paper.proofs.Decoded.{decoded-fine}
 use borrow.Author.Tests.{le-leb}
 
-beq-turn : (a b : Bool) → Bool·beq a b ≡ Bool·beq b a
-beq-turn true true = refl
-beq-turn true false = refl
-beq-turn false true = refl
-beq-turn false false = refl
-
--- document 01's rule for a literal
-lit-eq : (p : Sheet) (n s : ℕ) (ms : List ℕ) (l : Lit) → litValue p n s ms l ≡ shown (kept p n) (given p n s ms) l
-unfolding litValue kept given
-lit-eq p n s ms l = by (ltb (l .var - 1) (p .F))
-    (λ e. rw e (beq-turn (l .sign) (bit s (l .var - 1))))
-    (λ e. by (ltb (past p n (l .var) % stride p) (p .A))
-    (λ a. rw (e, a) (beq-turn (l .sign) (bit (getD ms (past p n (l .var) / stride p) 0) (past p n (l .var) % stride p))))
-    (λ a. rw (e, a)))
-
 judge-eq : (p : Sheet) (n : ℕ) (S : Clauses) (s : ℕ) (ms : List ℕ) →
     (judge p n (compile S .table) (compile S .root) s ms ≡ true) ↔ Extends (kept p n) (given p n s ms) S
-unfolding judge
-judge-eq p n S s ms =
-    let e : litValue p n s ms ≡ shown (kept p n) (given p n s ms) = λ i l. lit-eq p n s ms l i in
-    let r = row-theorem S (kept p n) (given p n s ms) in
-    (λ h. r .0 (subst (λ f. valueAt f (compile S .table) (compile S .root) ≡ true) e h), λ x. subst (λ f. valueAt f (compile S .table) (compile S .root) ≡ true) (sym e) (r .1 x))
+unfolding judge litValue
+judge-eq p n S s ms = row-theorem S (kept p n) (given p n s ms)
 
 -- demand 3, for any relation of excluded pairs
 pub judged : (ex : ℕ → ℕ → Bool) (p : Sheet) → Fine p → (s : ℕ) (ms : List ℕ) (n : ℕ) → length ms ≡ n →

@@ -9,18 +9,23 @@ use Rattle.paper.specs.Lists.{any, all, filter}
 use Rattle.paper.specs.Counting.{bit, overlap}
 use Rattle.paper.specs.Sheet.{Masks, Sheet, fits, goodMasks, holdsAt, holdsIn}
 use Rattle.paper.specs.Clauses.{Assign, holds, sat, satAll, literals, atMoment}
-use Rattle.paper.proofs.Basic.{never, and-e, by}
+use Rattle.paper.proofs.Basic.{never, and-e, by, not-true}
 use Rattle.paper.proofs.Lists.{all-map, all-filter, all-when, any-below, some-w, some-i}
 use Rattle.paper.proofs.Groups.{lits-any}
-use Rattle.paper.proofs.Bits.{bit-high}
+use Rattle.paper.proofs.Bits.{bit-high, bit-nil}
 use Rattle.paper.proofs.OneStep.{Facts}
 
 or-not : (b : Bool) → (b || not b) ≡ true
 or-not true = refl
 or-not false = refl
 
--- a clause that the theory leaves out holds always
-always : (F s : ℕ) (c : Masks) → goodMasks F c ≡ true → overlap (c .pos) (c .neg) ≡ true → holdsIn F s c ≡ true
+-- both masks zero: it never holds
+pub blank-never : (F s : ℕ) → holdsIn F s (record { pos = 0; neg = 0 }) ≡ false
+unfolding holdsIn holdsAt
+blank-never F s = not-true (λ e. some-w F _ e (λ k l d. never d (rw (bit-nil k))))
+
+-- overlapping: it always holds, so T(P) leaves it out
+pub always : (F s : ℕ) (c : Masks) → goodMasks F c ≡ true → overlap (c .pos) (c .neg) ≡ true → holdsIn F s c ≡ true
 unfolding overlap holdsIn holdsAt goodMasks fits
 always F s c h o = some-w 16 _ o (λ k l d.
     let x = and-e (bit (c .pos) k) (bit (c .neg) k) d in

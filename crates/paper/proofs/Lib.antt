@@ -1,23 +1,30 @@
+-- tools: Booleans, lists, bits
 pub mod Basic
 pub mod Any
+pub mod Lists
+pub mod Bits
+-- the sheet's bytes
+pub mod Decoded
+-- the parts of a clause set, the five lines, and the circuit as a tree
 pub mod Make
 pub mod Flood
 pub mod PartLaws
-pub mod Project
-pub mod Compile
-pub mod Shape
+pub mod CircuitValue
+pub mod Forgetting
+pub mod Decomposable
 pub mod Projection
-pub mod RowLaws
-pub mod RowTheorem
 pub mod Lines
-pub mod View
-pub mod ViewParts
-pub mod AtView
 pub mod UnitLaw
 pub mod Finest
 pub mod FiveLines
-pub mod Lists
-pub mod Bits
+-- the circuit as rows
+pub mod RowLaws
+pub mod RowTheorem
+pub mod Mono
+pub mod Makers
+pub mod Again
+pub mod Shared
+-- what T(P) says, and demand 3
 pub mod Groups
 pub mod OneStep
 pub mod Ends
@@ -25,19 +32,22 @@ pub mod Runs
 pub mod Model
 pub mod Means
 pub mod Serial
-pub mod Decoded
 pub mod Tidy
 pub mod Size
 pub mod Demand3
-pub mod Again
+-- for the compiler: views, the memory of parts, the limits
+pub mod View
+pub mod ViewParts
+pub mod AtView
 pub mod Keys
 pub mod Memory
 pub mod PartKey
 pub mod Limits
-pub mod Mono
+-- for the planner: the first schedule and the search
 pub mod Search
 pub mod FirstSchedule
-pub mod Loop
+pub mod SearchLoop
 pub mod Passes
-pub mod Permitted
+-- answers and buffers
 pub mod Buffers
+pub mod Permitted

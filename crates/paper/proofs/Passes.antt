@@ -17,7 +17,7 @@ use Rattle.paper.specs.Sheet.{Sheet, Fine, isStart}
 use Rattle.paper.specs.Step.{entriesFit, isPlan}
 use Rattle.paper.specs.Clauses.{stride, variables, theory, everyPair, theoryOf}
 use Rattle.paper.specs.Circuit.{Table, compile, rowValue, valuesOn, values, valueAt}
-use Rattle.paper.specs.Operations.{past, litValue, judge, Schedule, Test, firstPlan, valid, First}
+use Rattle.paper.specs.Operations.{past, litValue, judge, Schedule, Test, firstPlan, valid, First, given}
 use Rattle.paper.specs.Sets.{maskOf}
 use Rattle.paper.specs.Search.{search, Safe, fixed, openValue, passes}
 use Rattle.paper.proofs.Basic.{never, or-e, or-l, or-r, and-e, and-i, by}
@@ -41,7 +41,7 @@ mask-prefix σ τ i h =
 module _ (p : Sheet) (n : ℕ) where
   -- a literal of the steps that are fixed has its value already
   lit-prefix : (s : ℕ) (σ τ : Schedule) (l : Lit) → fixed p n (length σ) (l .var) ≡ true → litValue p n s (map maskOf (σ ++ τ)) l ≡ litValue p n s (map maskOf σ) l
-  unfolding fixed litValue
+  unfolding fixed litValue given
   lit-prefix s σ τ l h = by (ltb (l .var - 1) (p .F))
       (λ e. rw e)
       (λ e. let q : ltb (past p n (l .var) / stride p) (length σ) ≡ true = rw e at h in

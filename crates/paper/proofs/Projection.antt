@@ -6,9 +6,9 @@ use Prim.Native.Nat.{ℕ}
 use Rattle.paper.specs.Clauses.{Clauses, Assign}
 use Rattle.paper.specs.Circuit.{value, circuit}
 use Rattle.paper.specs.Meaning.{shown, Extends}
-use Rattle.paper.proofs.Project.{projects}
-use Rattle.paper.proofs.Compile.{circuit-value}
-use Rattle.paper.proofs.Shape.{circuit-fits}
+use Rattle.paper.proofs.Forgetting.{projects}
+use Rattle.paper.proofs.CircuitValue.{circuit-value}
+use Rattle.paper.proofs.Decomposable.{circuit-fits}
 
 pub theorem : (S : Clauses) (kept : ℕ → Bool) (k : Assign) → (value (shown kept k) (circuit S) ≡ true) ↔ Extends kept k S
 theorem S kept k =

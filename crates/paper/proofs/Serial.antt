@@ -18,7 +18,7 @@ use Rattle.paper.specs.Sets.{needsMet, fires, firingSet, actSet, thenPas
 use Rattle.paper.proofs.Basic.{never, and-i, and-e, by, not-true, eqb-same}
 use Rattle.paper.proofs.Lists.{bool-same, imp-e, imp-i, below-at, below-i, some-w, some-i, and-nil}
 use Rattle.paper.proofs.OneStep.{rule-acts}
-use Rattle.paper.proofs.Bits.{bit-high, bit-maskBelow, maskBelow-lt, bit-ext, bit-weight}
+use Rattle.paper.proofs.Bits.{bit-nil, bit-maskBelow, maskBelow-lt, bit-ext, bit-weight}
 
 -- ---- one action as a set
 needs-one : (p : Sheet) (a s : ℕ) → a < p .A → needsMet p (2 ^ a) s ≡ meets (p .F) s (needOf p a .need1) (needOf p a .need0)
@@ -54,9 +54,6 @@ unfolding actSet act
 act-one p fine a s h = rw (needs-one p a s h, firing-one p fine a s)
 
 -- ---- the empty set
-bit-nil : (k : ℕ) → bit 0 k ≡ false
-bit-nil k = bit-high 0 0 k (omega arith) (omega arith)
-
 needs-none : (p : Sheet) (s : ℕ) → needsMet p 0 s ≡ true
 unfolding needsMet
 needs-none p s = below-i (p .A) _ (λ a l. rw (bit-nil a))

@@ -1,3 +1,4 @@
+-- document 01, section by section
 pub mod Lists
 pub mod Counting
 pub mod Sheet
@@ -6,8 +7,10 @@ pub mod Clauses
 pub mod Circuit
 pub mod Operations
 pub mod Answers
+-- the words of demand 3
 pub mod Sets
 pub mod Meaning
+-- words for contracts inside the compiler and the planner
 pub mod View
 pub mod Memory
 pub mod Limits

@@ -22,7 +22,7 @@ use Rattle.paper.specs.Lists.{all, filter, each, upFrom}
 use Rattle.paper.specs.Counting.{bit}
 use Rattle.paper.specs.Sheet.{Sheet, Decoded, refused, decoded, word, fits, decode, isGoal, startCount}
 use Rattle.paper.specs.Step.{Run, run, entriesFit, isPlan}
-use Rattle.paper.specs.Clauses.{Assign, stride, variables, theory}
+use Rattle.paper.specs.Clauses.{Assign, holds, stride, variables, theory}
 use Rattle.paper.specs.Circuit.{rowNumbers, sameNumbers, Table, compile, builtOf, valueAt}
 
 -- an operation on a sheet: the sheet's own refusals come first
@@ -93,9 +93,7 @@ module _ (p : Sheet) (n : ℕ) where
 
   -- a literal of moment 0 takes its value from the state, an action literal from the masks; any other literal, of either sign, is true
   unfoldable pub litValue : ℕ → List ℕ → Lit → Bool
-  litValue s masks l =
-      cond (ltb (l .var - 1) (p .F)) (Bool·beq (l .sign) (bit s (l .var - 1)))
-      (cond (ltb (past (l .var) % stride p) (p .A)) (Bool·beq (l .sign) (bit (getD masks (past (l .var) / stride p) 0) (past (l .var) % stride p))) true)
+  litValue s masks l = not (kept (l .var)) || holds (given s masks) l
 
   unfoldable pub judge : Table → ℕ → ℕ → List ℕ → Bool
   judge t root s masks = valueAt (litValue s masks) t root

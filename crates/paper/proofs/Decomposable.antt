@@ -11,8 +11,8 @@ use Rattle.paper.specs.Circuit.{make, vars, lits, lowest, parts, Line, h
 use Rattle.paper.proofs.Basic.{never, or-r, or-l, or-e, not-true, eqb-t}
 use Rattle.paper.proofs.Make.{make-gone, make-sub}
 use Rattle.paper.proofs.PartLaws.{parts-sub, parts-apart, parts-within, Apart, Within}
-use Rattle.paper.proofs.Project.{occurs, Strange, Decomposable}
-use Rattle.paper.proofs.Compile.{Facts, line-facts}
+use Rattle.paper.proofs.Forgetting.{occurs, Strange, Decomposable}
+use Rattle.paper.proofs.CircuitValue.{Facts, line-facts}
 
 -- what the simplified forms keep
 beside-occurs : (y : ℕ) (a b : Circuit) → occurs y (beside a b) ≡ true → (occurs y a || occurs y b) ≡ true
