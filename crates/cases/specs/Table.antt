@@ -147,6 +147,7 @@ limits =
     ∷ (compile D 2 15 103 gives 8 ∷ 0 ∷ 2 ∷ 15 ∷ 0 ∷ 0 ∷ [])
     ∷ (compile D 2 14 4000 gives 7 ∷ 0 ∷ 2 ∷ 0 ∷ 0 ∷ 0 ∷ [])
     ∷ (compile D 9 0 0 gives 10 ∷ 0 ∷ 0 ∷ 0 ∷ 0 ∷ 0 ∷ [])
+    ∷ (compile D 65537 0 0 gives 10 ∷ 0 ∷ 0 ∷ 0 ∷ 0 ∷ 0 ∷ [])
     ∷ (compile (set D 16 4) 9 0 0 gives 4 ∷ 8 ∷ 0 ∷ 0 ∷ 0 ∷ 0 ∷ [])
     ∷ (plan D 14 4000 2 gives 7 ∷ 0 ∷ 2 ∷ 0 ∷ 0 ∷ 0 ∷ [])
     ∷ (plan D 4 4000 2 gives 7 ∷ 0 ∷ 1 ∷ 0 ∷ 0 ∷ 0 ∷ [])
@@ -160,7 +161,7 @@ limits =
 
 right-limits : Right limits
 unfolding sheet like-D one-action goals computed-Lists computed-Counting computed-Sheet computed-Step computed-Clauses computed-Circuit computed-Operations computed-Answers
-right-limits = (refl, (refl, (refl, (refl, (refl, (refl, (refl, (refl, (refl, (refl, (refl, (refl, (refl, (refl, (refl, (refl, (refl, (refl, tt))))))))))))))))))
+right-limits = (refl, (refl, (refl, (refl, (refl, (refl, (refl, (refl, (refl, (refl, (refl, (refl, (refl, (refl, (refl, (refl, (refl, (refl, (refl, tt)))))))))))))))))))
 
 -- starts counted, and what 1, 2, 3 and 4 refuse, with place
 abbrev pub sheets : List Case
