@@ -1,5 +1,5 @@
 -- The one-literal clause that is taken is the lowest, positive first: no other has a lower rank. Assumes nothing.
-use mathlib.Core.Path.{_≡_, sym, ap, _∙_, subst}
+use mathlib.Core.Path.{_≡_, refl, sym, ap, _∙_, subst}
 use mathlib.Core.Logic.{_≢_}
 use mathlib.Core.Bool.{Bool, true, false, not, cond, _&&_}
 use mathlib.Core.List.{[], _∷_}
@@ -9,8 +9,10 @@ use native.Mathlib.Omega.{arith}
 use lib.Dec.{T, eqb, ltb, ltb→lt, nltb→le}
 use Rattle.paper.specs.declared.Lit.{Lit}
 use Rattle.paper.specs.Clauses.{Clause, Clauses}
-use Rattle.paper.specs.Circuit.{ahead, first, unit}
-use Rattle.paper.proofs.Basic.{never, or-e, or-f, and-e, by, eqb-t, eqb-same}
+use Rattle.paper.specs.Circuit.{ahead, first, unit, same}
+use Rattle.paper.specs.Lists.{any}
+use Rattle.paper.proofs.Basic.{never, or-e, or-f, or-l, or-r, and-e, and-i, by, eqb-t, eqb-same}
+use Rattle.paper.proofs.Lists.{beq-same}
 
 abbrev pub low : Bool → ℕ
 low true = 0
@@ -23,16 +25,16 @@ low-le : (s : Bool) → low s ≤ 1
 low-le true = omega arith
 low-le false = omega arith
 
-before-t : (l m : Lit) → ahead l m ≡ true → rank l ≤ rank m
-before-t l m h =
+ahead-t : (l m : Lit) → ahead l m ≡ true → rank l ≤ rank m
+ahead-t l m h =
     let a = low-le (l .sign) in
     let b = low-le (m .sign) in
     or-e (ltb (l .var) (m .var)) (eqb (l .var) (m .var) && l .sign) h
     (λ e. let k = ltb→lt (l .var) (m .var) (subst T (sym e) tt) in omega arith)
     (λ e. let d = and-e (eqb (l .var) (m .var)) (l .sign) e in let k = eqb-t (l .var) (m .var) (d .0) in let z = ap low (d .1) in omega arith)
 
-before-f : (l m : Lit) → ahead l m ≡ false → rank m ≤ rank l
-before-f l m h =
+ahead-f : (l m : Lit) → ahead l m ≡ false → rank m ≤ rank l
+ahead-f l m h =
     let a = low-le (l .sign) in
     let b = low-le (m .sign) in
     let f = or-f (ltb (l .var) (m .var)) (eqb (l .var) (m .var) && l .sign) h in
@@ -55,9 +57,15 @@ NoUnit ([] ∷ S) = NoUnit S
 NoUnit ((k ∷ []) ∷ S) = ⊥
 NoUnit ((k ∷ (j ∷ c)) ∷ S) = NoUnit S
 
+-- the literal stands alone in a clause of S
+abbrev pub isAlone : Lit → Clause → Bool
+isAlone l [] = false
+isAlone l (k ∷ []) = same l k
+isAlone l (k ∷ (j ∷ c)) = false
+
 abbrev pub Chosen : Clauses → Option Lit → Type 0
 Chosen S none = NoUnit S
-Chosen S (some l) = Lowest l S
+Chosen S (some l) = (any (isAlone l) S ≡ true) × Lowest l S
 
 lower : (l k : Lit) → rank l ≤ rank k → (S : Clauses) → Lowest k S → Lowest l S
 lower l k b [] h = tt
@@ -71,11 +79,14 @@ alone l ([] ∷ S) h = alone l S h
 alone l ((j ∷ []) ∷ S) h = absurd h
 alone l ((j ∷ (i ∷ c)) ∷ S) h = alone l S h
 
+stands : (l : Lit) (S : Clauses) → any (isAlone l) ((l ∷ []) ∷ S) ≡ true
+stands l S = or-l (any (isAlone l) S) (and-i (eqb-same (l .var)) (beq-same (l .sign) (l .sign) refl))
+
 take-first : (l : Lit) (S : Clauses) (o : Option Lit) → Chosen S o → Chosen ((l ∷ []) ∷ S) (first l o)
-take-first l S none h = (omega arith, alone l S h)
+take-first l S none h = (stands l S, (omega arith, alone l S h))
 take-first l S (some m) h = by (ahead l m)
-    (λ e. subst (λ b. Lowest (cond b l m) ((l ∷ []) ∷ S)) (sym e) (omega arith, lower l m (before-t l m e) S h))
-    (λ e. subst (λ b. Lowest (cond b l m) ((l ∷ []) ∷ S)) (sym e) (before-f l m e, h))
+    (λ e. subst (λ b. Chosen ((l ∷ []) ∷ S) (some (cond b l m))) (sym e) (stands l S, (omega arith, lower l m (ahead-t l m e) S (h .1))))
+    (λ e. subst (λ b. Chosen ((l ∷ []) ∷ S) (some (cond b l m))) (sym e) (or-r (same m l) (h .0), (ahead-f l m e, h .1)))
 
 skip : (S : Clauses) (o : Option Lit) → Chosen S o → Chosen ([] ∷ S) o
 skip S none h = h
@@ -85,6 +96,7 @@ skip-long : (k j : Lit) (c : Clause) (S : Clauses) (o : Option Lit) → Chosen S
 skip-long k j c S none h = h
 skip-long k j c S (some l) h = h
 
+-- what is taken stands alone in a clause, and no one-literal clause ranks below it; nothing is taken only where there is none
 pub chosen : (S : Clauses) → Chosen S (unit S)
 chosen [] = tt
 chosen ([] ∷ S) = skip S (unit S) (chosen S)
