@@ -1,18 +1,17 @@
 -- What a call leaves in lent buffers: their lengths stay, and what lies past the numbers or past room is untouched. Assumes nothing.
-use mathlib.Core.Path.{_≡_, refl, sym, ap, _∙_}
-use mathlib.Core.Bool.{Bool, true, false, cond}
-use mathlib.Core.List.{List, [], _∷_, _++_, append-assoc}
-use Prim.Native.Nat.{ℕ, zero, suc, _+_, _-_, _*_, _/_, _≤_, _<_, min}
+use mathlib.Core.Path.{_≡_, refl}
+use mathlib.Core.List.{List, [], _∷_, _++_}
+use Prim.Native.Nat.{ℕ, _+_, _-_, _*_, _≤_}
 use native.Mathlib.Omega.{arith}
 use lib.Dec.{ltb}
 use lib.ListN.{length, drop, replicate, length-append, length-drop, length-replicate}
 use lib.Seq.{drop-at}
-use borrow.Author.Tests.{ltb-true, ltb-false}
+use borrow.Author.Tests.{ltb-false}
 use Rattle.paper.specs.declared.Row.{Row}
 use Rattle.paper.specs.declared.Row.the-variants.{False, True, Literal, Conjunction, Choice}
 use Rattle.paper.specs.Lists.{each}
-use Rattle.paper.specs.Circuit.{Table, rowNumbers}
-use Rattle.paper.specs.Operations.{bytes4, rowSize, rowBytes, room}
+use Rattle.paper.specs.Circuit.{Table}
+use Rattle.paper.specs.Operations.{rowSize, rowBytes, room}
 use Rattle.paper.specs.Answers.{told, filled}
 use Rattle.paper.proofs.Basic.{by}
 
@@ -28,7 +27,8 @@ told-length (n ∷ ns) slice = by (ltb (length slice) 4)
     let d = length-drop 4 slice in
     rw e (omega arith))
 
-row-length : (r : Row) → length (rowBytes r) ≡ 16
+-- a row has sixteen bytes
+pub row-length : (r : Row) → length (rowBytes r) ≡ 16
 unfolding rowBytes each
 row-length False = refl
 row-length True = refl

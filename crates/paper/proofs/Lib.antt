@@ -51,3 +51,5 @@ pub mod Passes
 -- answers and buffers
 pub mod Buffers
 pub mod Permitted
+pub mod ReadBack
+pub mod Called

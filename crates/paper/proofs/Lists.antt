@@ -1,10 +1,9 @@
 -- Laws of `all` and `any` over ++, map, filter, each, upFrom; tests of all numbers below n. Assumes nothing.
-use mathlib.Core.Path.{_≡_, refl, sym, ap, _∙_, subst}
+use mathlib.Core.Path.{_≡_, refl, sym, _∙_, subst}
 use mathlib.Core.Bool.{Bool, true, false, not, _&&_, _||_, Bool·beq}
 use mathlib.Core.List.{List, [], _∷_, _++_, map}
 use Prim.Native.Nat.{ℕ, zero, suc, _+_, _<_}
 use native.Mathlib.Omega.{arith}
-use native.Mathlib.Numerals.{add-one}
 use lib.Dec.{eqb}
 use lib.ListN.{length, getD}
 use Rattle.paper.specs.declared.Lit.{Lit}
@@ -216,6 +215,17 @@ module _ {A : Type 0} where
   all-getD f d [] h i l = absurd (omega arith)
   all-getD f d (x ∷ xs) h zero l = and-e (f x) (all f xs) h .0
   all-getD f d (x ∷ xs) h (suc i) l = all-getD f d xs (and-e (f x) (all f xs) h .1) i (omega arith)
+
+-- tests that agree below n pass the same numbers
+pub filter-below : (f g : ℕ → Bool) (n i : ℕ) → ((k : ℕ) → k < i + n → f k ≡ g k) → filter f (upFrom i n) ≡ filter g (upFrom i n)
+unfolding upFrom
+filter-below f g zero i e = refl
+filter-below f g (suc n) i e = rw (e i (omega arith), filter-below f g n (i + 1) (λ k l. e k (omega arith)))
+
+-- a test that nothing passes
+pub filter-none : {A : Type 0} (f : A → Bool) → ((x : A) → f x ≡ false) → (xs : List A) → filter f xs ≡ []
+filter-none f e [] = refl
+filter-none f e (x ∷ xs) = rw (e x) (filter-none f e xs)
 
 -- the opposites of literals
 pub any-neg : (v : Assign) (ls : List Lit) → any (holds v) (map neg ls) ≡ not (all (holds v) ls)

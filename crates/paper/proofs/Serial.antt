@@ -9,14 +9,14 @@ use lib.Pow.{pow-pos, pow-lt}
 use borrow.Author.Tests.{eqb-true, eqb-false, eq-eqb, ne-eqb, lt-ltb}
 use Rattle.paper.specs.declared.Stepped.{Stepped}
 use Rattle.paper.specs.declared.Stepped.the-variants.{Ran, NeedUnmet, Clashed}
-use Rattle.paper.specs.Lists.{all, filter, upFrom}
+use Rattle.paper.specs.Lists.{all, upFrom}
 use Rattle.paper.specs.Counting.{bit, allBelow, someBelow}
 use Rattle.paper.specs.Sheet.{Rule, Sheet, isGoal, Fine}
 use Rattle.paper.specs.Step.{meets, needOf, firing, sets1, sets0, clash, applied, stepped, act, step, onward, runFrom, run, reaches, ruleOf, entriesFit}
 use Rattle.paper.specs.Clauses.{everyPair}
 use Rattle.paper.specs.Sets.{needsMet, fires, firingSet, actSet, thenPass, reachesSets, apartSet, maskOf}
 use Rattle.paper.proofs.Basic.{never, and-i, and-e, by, not-true, eqb-same}
-use Rattle.paper.proofs.Lists.{bool-same, imp-e, imp-i, below-at, below-i, some-w, some-i, and-nil}
+use Rattle.paper.proofs.Lists.{filter-below, filter-none, bool-same, imp-e, imp-i, below-at, below-i, some-w, some-i, and-nil}
 use Rattle.paper.proofs.OneStep.{rule-acts}
 use Rattle.paper.proofs.Bits.{bit-nil, bit-maskBelow, maskBelow-lt, bit-ext, bit-weight}
 
@@ -27,16 +27,6 @@ needs-one p a s h = bool-same (allBelow (p .A) _) (meets (p .F) s (needOf p a .n
     (λ e. imp-e (bit (2 ^ a) a) _ (below-at (p .A) _ e a h) (bit-weight a a ∙ eqb-same a))
     (λ e. below-i (p .A) _ (λ b l. imp-i (bit (2 ^ a) b) _ (λ d.
     subst (λ c. meets (p .F) s (needOf p c .need1) (needOf p c .need0) ≡ true) (sym (eqb-true b a (sym (bit-weight a b) ∙ d))) e)))
-
--- tests that agree below n pass the same numbers
-filter-below : (f g : ℕ → Bool) (n i : ℕ) → ((k : ℕ) → k < i + n → f k ≡ g k) → filter f (upFrom i n) ≡ filter g (upFrom i n)
-unfolding upFrom
-filter-below f g zero i e = refl
-filter-below f g (suc n) i e = rw (e i (omega arith), filter-below f g n (i + 1) (λ k l. e k (omega arith)))
-
-filter-none : {A : Type 0} (f : A → Bool) → ((x : A) → f x ≡ false) → (xs : List A) → filter f xs ≡ []
-filter-none f e [] = refl
-filter-none f e (x ∷ xs) = rw (e x) (filter-none f e xs)
 
 less-one : (x a : ℕ) → 1 ≤ x → eqb (x - 1) a ≡ eqb x (a + 1)
 less-one x a h = by (eqb x (a + 1))
