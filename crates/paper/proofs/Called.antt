@@ -1,8 +1,8 @@
 -- Demand 3 over what the calls leave: judge, asked about the rows, count and root that an answered compile left, says yes exactly if the state is a start,
 -- no step has two actions, and the run ends in the goal. Assumes nothing.
-use mathlib.Core.Path.{_≡_, refl, sym, ap, _∙_}
+use mathlib.Core.Path.{_≡_, sym, ap, _∙_}
 use mathlib.Core.Logic.{_↔_}
-use mathlib.Core.Bool.{Bool, true, false, not, _&&_}
+use mathlib.Core.Bool.{Bool, true, not, _&&_}
 use mathlib.Core.List.{List, [], _++_, map, append-assoc}
 use Prim.Native.Nat.{ℕ, _+_, _-_, _*_, _/_, _^_, min, _≤_, _<_}
 use native.Mathlib.Omega.{arith}
@@ -16,36 +16,20 @@ use Rattle.paper.specs.declared.Fault.the-variants.{BadCall}
 use Rattle.paper.specs.Lists.{all, filter, each, upFrom}
 use Rattle.paper.specs.Sheet.{Sheet, decoded, word, fits, decode, isStart, Fine}
 use Rattle.paper.specs.Step.{entriesFit, reaches}
-use Rattle.paper.specs.Clauses.{Clauses, variables, theory, everyPair}
-use Rattle.paper.specs.Circuit.{Table, compile, effort, within-limits, builtOf}
+use Rattle.paper.specs.Clauses.{variables, theory, everyPair}
+use Rattle.paper.specs.Circuit.{Table, compile, builtOf}
 use Rattle.paper.specs.Operations.{onSheet, rowSize, rowBytes, room, compileSheet, compileOf, judge, goodRowAt, tableOf, masksOf, goodJudge, judgedBy, judgeSheet, judgeOf}
 use Rattle.paper.specs.Answers.{filled, compileRows, tableFor, compileLeft}
 use Rattle.paper.specs.Sets.{maskOf}
+use Rattle.paper.specs.Planning.{Answered}
 use Rattle.paper.proofs.Basic.{Every, and-i, by}
 use Rattle.paper.proofs.Decoded.{decoded-fine, length-count}
 use Rattle.paper.proofs.RowTheorem.{Sound}
 use Rattle.paper.proofs.Size.{variables-most}
+use Rattle.paper.proofs.Limits.{answered}
 use Rattle.paper.proofs.Demand3.{taken, serial}
 use Rattle.paper.proofs.Buffers.{filled-length}
 use Rattle.paper.proofs.ReadBack.{Fits, table-read, sound-fits, no-bad-row}
-
--- what an answer 0 tells of the circuit
-pub record Answered (limit k : ℕ) (S : Clauses) (e rows root : ℕ) : Type 0 where
-  pub effort-is : effort S ≡ e
-  pub rows-are : length (compile S .table) ≡ rows
-  pub root-is : compile S .root ≡ root
-  pub within-effort : effort S ≤ limit
-  pub within-room : length (compile S .table) ≤ k
-
-pub answered : (limit k : ℕ) (S : Clauses) (e rows root : ℕ) → builtOf limit k S ≡ Built.Whole e rows root → Answered limit k S e rows root
-unfolding builtOf
-answered limit k S e rows root h = cases (leb (effort S) limit) (leb (length (compile S .table)) k) refl refl h
-  where
-    cases : (x y : Bool) → leb (effort S) limit ≡ x → leb (length (compile S .table)) k ≡ y
-        → within-limits x y (effort S) (length (compile S .table)) (compile S .root) ≡ Built.Whole e rows root → Answered limit k S e rows root
-    cases false y a b q = let z : _≡_ {A = ℕ} 0 1 = cc in absurd (omega arith)
-    cases true false a b q = let z : _≡_ {A = ℕ} 0 1 = cc in absurd (omega arith)
-    cases true true a b q = record { effort-is = cc; rows-are = cc; root-is = cc; within-effort = leb-true (effort S) limit a; within-room = leb-true (length (compile S .table)) k b }
 
 value-same : (v w : Bool) → Judged.Value v ≡ Judged.Value w → v ≡ w
 value-same v w h = cc

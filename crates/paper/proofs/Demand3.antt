@@ -1,22 +1,20 @@
 -- Demand 3, both halves together: what judge says of compiled T(P). Assumes nothing.
-use mathlib.Core.Path.{_≡_, refl, sym, _∙_, subst}
+use mathlib.Core.Path.{_≡_, sym, _∙_, subst}
 use mathlib.Core.Logic.{_↔_}
-use mathlib.Core.Bool.{Bool, true, false, _&&_, Bool·beq}
+use mathlib.Core.Bool.{Bool, true, _&&_}
 use mathlib.Core.List.{List, map}
-use Prim.Native.Nat.{ℕ, _-_, _/_, _%_, _^_, _<_}
+use Prim.Native.Nat.{ℕ, _-_, _^_, _<_}
 use lib.Dec.{ltb, leb}
-use lib.ListN.{length, getD, length-map}
-use Rattle.paper.specs.declared.Lit.{Lit}
+use lib.ListN.{length, length-map}
 use Rattle.paper.specs.Lists.{all}
-use Rattle.paper.specs.Counting.{bit}
 use Rattle.paper.specs.Sheet.{Sheet, decoded, decode, isStart, Fine}
 use Rattle.paper.specs.Step.{reaches, isPlan, entriesFit}
-use Rattle.paper.specs.Clauses.{Clauses, stride, variables, theoryOf, everyPair, theory}
-use Rattle.paper.specs.Circuit.{compile, valueAt}
-use Rattle.paper.specs.Operations.{past, kept, given, litValue, judge}
+use Rattle.paper.specs.Clauses.{Clauses, variables, theoryOf, everyPair, theory}
+use Rattle.paper.specs.Circuit.{compile}
+use Rattle.paper.specs.Operations.{kept, given, litValue, judge}
 use Rattle.paper.specs.Sets.{reachesSets, apartSet, maskOf, Good}
-use Rattle.paper.specs.Meaning.{shown, Extends}
-use Rattle.paper.proofs.Basic.{by, and-i}
+use Rattle.paper.specs.Meaning.{Extends}
+use Rattle.paper.proofs.Basic.{and-i}
 use Rattle.paper.proofs.RowTheorem.{row-theorem, Sound, compiled}
 use Rattle.paper.proofs.Lists.{imp-e, imp-i, below-at, below-i}
 use Rattle.paper.proofs.Serial.{reaches-eq, schedule-of, apart-schedule}

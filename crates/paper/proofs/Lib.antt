@@ -43,11 +43,12 @@ pub mod Keys
 pub mod Memory
 pub mod PartKey
 pub mod Limits
--- for the planner: the first schedule and the search
+-- for the planner: the first schedule, the search, and demand 2
 pub mod Search
 pub mod FirstSchedule
 pub mod SearchLoop
 pub mod Passes
+pub mod Demand2
 -- answers and buffers
 pub mod Buffers
 pub mod Permitted

@@ -1,16 +1,14 @@
 -- A row's value is monotone in the values of the literals, of any table. Assumes nothing.
-use mathlib.Core.Path.{_≡_, sym, ap, _∙_}
-use mathlib.Core.Bool.{Bool, true, false, not, Bool·beq}
+use mathlib.Core.Path.{_≡_}
+use mathlib.Core.Bool.{Bool, true, false}
 use mathlib.Core.List.{List, [], _∷_, _++_}
 use Prim.Native.Nat.{ℕ, zero, suc}
 use lib.ListN.{getD}
 use Rattle.paper.specs.declared.Lit.{Lit}
 use Rattle.paper.specs.declared.Row.{Row}
 use Rattle.paper.specs.declared.Row.the-variants.{False, True, Literal, Conjunction, Choice}
-use Rattle.paper.specs.Clauses.{Assign, holds}
 use Rattle.paper.specs.Circuit.{Table, rowValue, valuesOn, values, valueAt}
-use Rattle.paper.specs.Meaning.{shown}
-use Rattle.paper.proofs.Basic.{never, or-r, or-l, or-e, and-e, and-i, by}
+use Rattle.paper.proofs.Basic.{or-r, or-l, or-e, and-e, and-i}
 
 -- each value that is true in the first list is true in the second
 abbrev Le : List Bool → List Bool → Type 0

@@ -7,7 +7,8 @@ pub mod Clauses
 pub mod Circuit
 pub mod Operations
 pub mod Answers
--- the words of demand 3
+-- the words of demands 2 and 3
+pub mod Planning
 pub mod Sets
 pub mod Meaning
 -- words for contracts inside the compiler and the planner
