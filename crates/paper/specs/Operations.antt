@@ -109,8 +109,11 @@ rowOf (suc (suc zero)) a b c = Literal (record { var = a; sign = eqb b 1 })
 rowOf (suc (suc (suc zero))) a b c = Conjunction b c
 rowOf (suc (suc (suc (suc k)))) a b c = Choice a b c
 
+abbrev pub rowFrom : List ℕ → Row
+rowFrom ns = rowOf (getD ns 0 0) (getD ns 1 0) (getD ns 2 0) (getD ns 3 0)
+
 unfoldable pub rowAt : List ℕ → ℕ → Row
-rowAt buf i = rowOf (long buf (rowSize * i)) (long buf (rowSize * i + 4)) (long buf (rowSize * i + 8)) (long buf (rowSize * i + 12))
+rowAt buf i = rowFrom (numbersAt buf i)
 
 -- row 0 is False, row 1 is True, and neither kind stands elsewhere; children are lower; variables are 1..top
 abbrev pub stands : ℕ → ℕ → Row → Bool
