@@ -6,11 +6,12 @@ use Prim.Native.Nat.{ℕ, _≤_, _<_}
 use native.Mathlib.Omega.{arith}
 use lib.Dec.{eqb}
 use lib.ListN.{length}
+use borrow.Author.Tests.{eqb-true}
 use Rattle.paper.specs.declared.Lit.{Lit}
 use Rattle.paper.specs.Lists.{any, filter, elem}
 use Rattle.paper.specs.Clauses.{Clauses}
 use Rattle.paper.specs.Circuit.{varsC, vars, lits}
-use Rattle.paper.proofs.Basic.{never, or-r, or-l, or-e, or-f, by, eqb-t, any-append}
+use Rattle.paper.proofs.Basic.{never, or-r, or-l, or-e, or-f, by, any-append}
 
 module _ {A : Type 0} where
   pub any-mono : (f g : A → Bool) → ((x : A) → f x ≡ true → g x ≡ true) → (xs : List A) → any f xs ≡ true → any g xs ≡ true
@@ -50,7 +51,7 @@ module _ {A : Type 0} where
 pub any-elem : (p : ℕ → Bool) (y : ℕ) (xs : List ℕ) → elem y xs ≡ true → p y ≡ true → any p xs ≡ true
 any-elem p y [] h k = h
 any-elem p y (x ∷ xs) h k = or-e (eqb y x) (elem y xs) h
-    (λ q. or-l (any p xs) (subst (λ z. p z ≡ true) (eqb-t y x q) k))
+    (λ q. or-l (any p xs) (subst (λ z. p z ≡ true) (eqb-true y x q) k))
     (λ q. or-r (p x) (any-elem p y xs q k))
 
 pub vars-any : (y : ℕ) (S : Clauses) → elem y (vars S) ≡ any (λ c. elem y (varsC c)) S

@@ -1,9 +1,10 @@
 -- Small facts on Booleans, `any`, `all`, `filter`, `elem`. Assumes nothing.
-use mathlib.Core.Path.{_≡_, refl, sym, _∙_, subst}
+use mathlib.Core.Path.{_≡_, refl, sym, _∙_}
 use mathlib.Core.Bool.{Bool, true, false, not, _&&_, _||_, cond, true≢false}
 use mathlib.Core.List.{List, [], _∷_, _++_}
 use Prim.Native.Nat.{ℕ, _+_}
-use lib.Dec.{eqb, eqb→eq, eqb-refl, T}
+use lib.Dec.{eqb}
+use borrow.Author.Tests.{eq-eqb}
 use Rattle.paper.specs.Lists.{any, all, filter}
 
 pub never {ℓ} : {X : Type ℓ} {b : Bool} → b ≡ true → b ≡ false → X
@@ -60,16 +61,8 @@ by false f g = g refl
 pub not-true : {b : Bool} → (b ≡ true → ⊥) → b ≡ false
 not-true {b} h = by b (λ p. absurd (h p)) (λ q. q)
 
--- equality of numbers, as a path
-pub eqb-t : (m n : ℕ) → eqb m n ≡ true → m ≡ n
-eqb-t m n h = eqb→eq m n (subst T (sym h) tt)
-
 pub eqb-same : (n : ℕ) → eqb n n ≡ true
-eqb-same n = from (eqb n n) (eqb-refl n)
-  where
-    from : (b : Bool) → T b → b ≡ true
-    from true t = refl
-    from false t = absurd t
+eqb-same n = eq-eqb n n refl
 
 module _ {A : Type 0} (p : A → Bool) where
   pub any-append : (xs ys : List A) → any p (xs ++ ys) ≡ (any p xs || any p ys)

@@ -6,12 +6,12 @@ use Prim.Native.Nat.{ℕ, zero, suc, _+_, _*_, _≤_}
 use native.Mathlib.Omega.{arith}
 use lib.Dec.{eqb, leb}
 use lib.ListN.{length, length-map}
-use borrow.Author.Tests.{leb-true}
+use borrow.Author.Tests.{eqb-true, leb-true}
 use Rattle.paper.specs.declared.Fault.{Fault}
 use Rattle.paper.specs.declared.Fault.the-variants.{Unmarked, Unbounded, Disagrees}
 use Rattle.paper.specs.Lists.{all, filter, upFrom}
 use Rattle.paper.specs.Sheet.{Sheet, Trailer, trailer, marked, within, agrees, goodNeed, goodRule, goodMasks, needAt, ruleAt, masksAt, offsets, needsAt, rulesAt, startsAt, goalsAt, badRows, sheetOf, Decoded, decoded, unless, noRow, decode, Fine, bodyLength, trailerLength, bodyAt}
-use Rattle.paper.proofs.Basic.{and-e, by, eqb-t}
+use Rattle.paper.proofs.Basic.{and-e, by}
 use Rattle.paper.proofs.Lists.{all-map}
 
 unless-e : (ok : Bool) (f : Fault) (d : Decoded) (p : Sheet) → unless ok f d ≡ decoded p → (ok ≡ true) × (d ≡ decoded p)
@@ -95,8 +95,8 @@ accepted b p h =
     record {
       mark = h1 .0;
       bounds = within-bounded t (h2 .0);
-      back-is = eqb-t (t .back) (bodyLength t) (g .0);
-      length-is = eqb-t (length b) (t .back + trailerLength) (g .1);
+      back-is = eqb-true (t .back) (bodyLength t) (g .0);
+      length-is = eqb-true (length b) (t .back + trailerLength) (g .1);
       clear = h4 .0;
       sheet-is = h4 .1;
     }

@@ -4,11 +4,12 @@ use mathlib.Core.Bool.{true, false, _||_}
 use mathlib.Core.List.{List, [], _∷_, map}
 use Prim.Native.Nat.{ℕ, zero, suc}
 use lib.Dec.{eqb}
+use borrow.Author.Tests.{eqb-true}
 use Rattle.paper.specs.declared.Lit.{Lit}
 use Rattle.paper.specs.Lists.{any, elem}
 use Rattle.paper.specs.Clauses.{Clauses}
 use Rattle.paper.specs.Circuit.{make, vars, lits, lowest, parts, Line, has-empty, no-clause, one-literal, split, lineOf, side, decide, part, byLine, buildFor, build, Circuit, no-way, any-way, leaf, conj, choice, beside, both, apart, oneOf, bothAll, tree, circuit}
-use Rattle.paper.proofs.Basic.{never, or-r, or-l, or-e, not-true, eqb-t}
+use Rattle.paper.proofs.Basic.{never, or-r, or-l, or-e, not-true}
 use Rattle.paper.proofs.Make.{make-gone, make-sub}
 use Rattle.paper.proofs.PartLaws.{parts-sub, parts-apart, parts-within, Apart, Within}
 use Rattle.paper.proofs.Forgetting.{occurs, Strange, Decomposable}
@@ -81,11 +82,11 @@ module _ (r : Clauses → Circuit) (ih : (S : Clauses) → Fits (vars S) (r S)) 
   side-fits l S h = record { dec = both-dec (leaf l) (r (make l S)) tt (ih (make l S) .dec) strange; sub = sub }
     where
       strange : Strange (leaf l) (r (make l S))
-      strange y e = not-true (λ k. never (ih (make l S) .sub y k) (subst (λ z. elem z (vars (make l S)) ≡ false) (sym (eqb-t y (l .var) e)) (make-gone l S)))
+      strange y e = not-true (λ k. never (ih (make l S) .sub y k) (subst (λ z. elem z (vars (make l S)) ≡ false) (sym (eqb-true y (l .var) e)) (make-gone l S)))
 
       sub : (y : ℕ) → occurs y (side tree r l S) ≡ true → elem y (vars S) ≡ true
       sub y k = or-e (eqb y (l .var)) (occurs y (r (make l S))) (both-occurs y (leaf l) (r (make l S)) k)
-          (λ e. subst (λ z. elem z (vars S) ≡ true) (sym (eqb-t y (l .var) e)) h)
+          (λ e. subst (λ z. elem z (vars S) ≡ true) (sym (eqb-true y (l .var) e)) h)
           (λ e. make-sub l y S (ih (make l S) .sub y e))
 
   decide-fits : (x : ℕ) (S : Clauses) → elem x (vars S) ≡ true → Fits (vars S) (decide tree r x S)

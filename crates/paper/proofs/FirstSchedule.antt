@@ -6,18 +6,18 @@ use mathlib.Core.Option.{Option, none, some, Option·map}
 use Prim.Native.Nat.{ℕ, zero, suc, _+_, _≤_, _<_}
 use native.Mathlib.Omega.{arith}
 use lib.Dec.{eqb, ltb, leb}
-use borrow.Author.Tests.{ltb-true, lt-ltb, leb-true, le-leb}
+use borrow.Author.Tests.{eqb-true, ltb-true, lt-ltb, leb-true, le-leb}
 use Rattle.paper.specs.Lists.{upFrom, each}
 use Rattle.paper.specs.Operations.{Schedule, Test, schedules, firstOf, valid, earlier, First}
 use Rattle.paper.specs.Search.{orElse, search, Safe}
-use Rattle.paper.proofs.Basic.{never, or-r, or-l, or-e, or-f, and-e, and-i, not-true, by, eqb-t, eqb-same}
+use Rattle.paper.proofs.Basic.{never, or-r, or-l, or-e, or-f, and-e, and-i, not-true, by, eqb-same}
 use Rattle.paper.proofs.Search.{spread, first-append, search-first}
 
 -- a higher first entry is not earlier
 later-f : (x y : ℕ) (s t : Schedule) → x < y → earlier (y ∷ t) (x ∷ s) ≡ false
 later-f x y s t h = not-true (λ k. or-e (ltb y x) (eqb y x && earlier t s) k
     (λ e. let q = ltb-true y x e in absurd (omega arith))
-    (λ e. let q = eqb-t y x (and-e (eqb y x) (earlier t s) e .0) in absurd (omega arith)))
+    (λ e. let q = eqb-true y x (and-e (eqb y x) (earlier t s) e .0) in absurd (omega arith)))
 
 -- begins with e, and the rest is one of v
 abbrev starts : ℕ → Test → Test
@@ -32,7 +32,7 @@ from e (suc k) v s = starts e v s || from (e + 1) k v s
 from-in : (e k : ℕ) (v : Test) (x : ℕ) (s : Schedule) → from e k v (x ∷ s) ≡ true → (e ≤ x) × (x < e + k) × (v s ≡ true)
 from-in e zero v x s h = never h refl
 from-in e (suc k) v x s h = or-e (eqb x e && v s) (from (e + 1) k v (x ∷ s)) h
-    (λ q. let z = and-e (eqb x e) (v s) q in let n = eqb-t x e (z .0) in (omega arith, omega arith, z .1))
+    (λ q. let z = and-e (eqb x e) (v s) q in let n = eqb-true x e (z .0) in (omega arith, omega arith, z .1))
     (λ q. let z = from-in (e + 1) k v x s q in (omega arith, omega arith, z .2))
 
 from-nil : (e k : ℕ) (v : Test) → from e k v [] ≡ false
@@ -74,7 +74,7 @@ first-map good e (s ∷ ss) = by (good (e ∷ s)) (λ q. rw q) (λ q. rw q (firs
 
 begin-with : (e : ℕ) (v : Test) (P : Schedule → Type 0) → ((s : Schedule) → v s ≡ true → P (e ∷ s)) → (s : Schedule) → starts e v s ≡ true → P s
 begin-with e v P h [] k = never k refl
-begin-with e v P h (x ∷ s) k = let z = and-e (eqb x e) (v s) k in subst (λ y. P (y ∷ s)) (sym (eqb-t x e (z .0))) (h s (z .1))
+begin-with e v P h (x ∷ s) k = let z = and-e (eqb x e) (v s) k in subst (λ y. P (y ∷ s)) (sym (eqb-true x e (z .0))) (h s (z .1))
 
 earlier-tail : (e : ℕ) (t s : Schedule) → earlier t s ≡ false → earlier (e ∷ t) (e ∷ s) ≡ false
 earlier-tail e t s h = not-true (λ k. or-e (ltb e e) (eqb e e && earlier t s) k
@@ -91,7 +91,7 @@ starts-earlier e k v s [] h q = refl
 starts-earlier e k v [] (y ∷ t) h q = never h refl
 starts-earlier e k v (x ∷ s) (y ∷ t) h q =
     let z = from-in (e + 1) k v y t q in
-    let n = eqb-t x e (and-e (eqb x e) (v s) h .0) in
+    let n = eqb-true x e (and-e (eqb x e) (v s) h .0) in
     later-f x y s t (omega arith)
 
 spread-first : (v : Test) (ss : List Schedule) → ((good : Test) → First v good (firstOf good ss)) → (good : Test) (k e : ℕ) → First (from e k v) good (firstOf good (spread (upFrom e k) ss))

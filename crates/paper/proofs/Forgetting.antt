@@ -4,11 +4,12 @@ use mathlib.Core.Logic.{_↔_}
 use mathlib.Core.Bool.{Bool, true, false, not, _||_, cond, Bool·beq}
 use Prim.Native.Nat.{ℕ}
 use lib.Dec.{eqb}
+use borrow.Author.Tests.{eqb-true}
 use Rattle.paper.specs.declared.Lit.{Lit}
 use Rattle.paper.specs.Clauses.{Assign, holds}
 use Rattle.paper.specs.Circuit.{Circuit, no-way, any-way, leaf, conj, choice, value}
 use Rattle.paper.specs.Meaning.{shown, Agrees}
-use Rattle.paper.proofs.Basic.{never, or-r, or-l, or-e, and-e, and-i, not-t, by, eqb-t, eqb-same}
+use Rattle.paper.proofs.Basic.{never, or-r, or-l, or-e, and-e, and-i, not-t, by, eqb-same}
 use Rattle.paper.proofs.Make.{beq-t, beq-same}
 
 abbrev pub occurs : ℕ → Circuit → Bool
@@ -50,8 +51,8 @@ module _ (kept : ℕ → Bool) (k : Assign) where
     where
       agrees : Agrees kept k (with-lit l)
       agrees x on = by (eqb x (l .var))
-          (λ e. rw e (sym (ap k (eqb-t x (l .var) e) ∙ beq-t (k (l .var)) (l .sign)
-          (or-e (not (kept (l .var))) (holds k l) h (λ q. never on (subst (λ z. kept z ≡ false) (sym (eqb-t x (l .var) e)) (not-t (kept (l .var)) q))) (λ q. q)))))
+          (λ e. rw e (sym (ap k (eqb-true x (l .var) e) ∙ beq-t (k (l .var)) (l .sign)
+          (or-e (not (kept (l .var))) (holds k l) h (λ q. never on (subst (λ z. kept z ≡ false) (sym (eqb-true x (l .var) e)) (not-t (kept (l .var)) q))) (λ q. q)))))
           (λ e. rw e)
 
   -- two assignments joined: the first on the variables of a

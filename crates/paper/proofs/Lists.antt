@@ -6,11 +6,12 @@ use Prim.Native.Nat.{ℕ, zero, suc, _+_, _<_}
 use native.Mathlib.Omega.{arith}
 use lib.Dec.{eqb}
 use lib.ListN.{length, getD}
+use borrow.Author.Tests.{eqb-true}
 use Rattle.paper.specs.declared.Lit.{Lit}
 use Rattle.paper.specs.Lists.{any, all, filter, only, each, upFrom}
 use Rattle.paper.specs.Counting.{allBelow, someBelow}
 use Rattle.paper.specs.Clauses.{neg, Assign, holds}
-use Rattle.paper.proofs.Basic.{never, or-r, or-l, or-e, and-i, and-e, and-join, by, eqb-t, any-append}
+use Rattle.paper.proofs.Basic.{never, or-r, or-l, or-e, and-i, and-e, and-join, by, any-append}
 
 -- two Booleans that are true together are equal
 pub bool-same : (a b : Bool) → (a ≡ true → b ≡ true) → (b ≡ true → a ≡ true) → a ≡ b
@@ -165,7 +166,7 @@ any-i0 f n k l e = any-i f n 0 k l (subst (λ j. f j ≡ true) (omega arith) e)
 
 -- ---- allBelow and someBelow
 pub below-suc : (P : ℕ → Type 0) (n k : ℕ) → k < suc n → (k < n → P k) → P n → P k
-below-suc P n k h f x = by (eqb k n) (λ p. rw (eqb-t k n p) x) (λ p. f (lower p))
+below-suc P n k h f x = by (eqb k n) (λ p. rw (eqb-true k n p) x) (λ p. f (lower p))
   where
     lower : eqb k n ≡ false → k < n
     lower p = let q : k ≡ n → ⊥ = borrow.Author.Tests.eqb-false k n p in omega arith

@@ -7,7 +7,7 @@ use native.Mathlib.Nat.{suc-mul, mul-le-mul-right}
 use native.Mathlib.Omega.{arith}
 use lib.Dec.{eqb, ltb, leb}
 use lib.ListN.{length}
-use borrow.Author.Tests.{ltb-true}
+use borrow.Author.Tests.{eqb-true, ltb-true}
 use Rattle.paper.specs.declared.Moment.{Moment}
 use Rattle.paper.specs.declared.Lit.{Lit}
 use Rattle.paper.specs.Lists.{filter, only, each, upFrom, elem}
@@ -16,7 +16,7 @@ use Rattle.paper.specs.Sheet.{Rule, Masks, Sheet, fits, goodPair, goodRu
 use Rattle.paper.specs.Step.{needOf, ruleOf}
 use Rattle.paper.specs.Clauses.{Clause, Clauses, yes·, no·, neg, stride, fact, action, z, variables, facts, actions, ruleNos, literals, atMoment, needClauses, zClauses, effectClauses, exclusions, frames, stepClauses, theoryOf}
 use Rattle.paper.specs.Circuit.{varsC, vars}
-use Rattle.paper.proofs.Basic.{Every, never, and-e, by, not-true, not-t, or-e, eqb-t, any-append}
+use Rattle.paper.proofs.Basic.{Every, never, and-e, by, not-true, not-t, or-e, any-append}
 use Rattle.paper.proofs.Lists.{all-getD, some-i}
 use Rattle.paper.proofs.OneStep.{rule-act}
 
@@ -286,7 +286,7 @@ span-vars : (lo hi y : ℕ) (c : Clause) → Span lo hi c → elem y (varsC c) �
 unfolding Span
 span-vars lo hi y [] h e = never e refl
 span-vars lo hi y (l ∷ c) h e = or-e (eqb y (l .var)) (elem y (varsC c)) e
-    (λ q. let k = span-le (l .var) hi c (h .1) in let d : y ≡ l .var = eqb-t y (l .var) q in omega arith)
+    (λ q. let k = span-le (l .var) hi c (h .1) in let d : y ≡ l .var = eqb-true y (l .var) q in omega arith)
     (λ q. let k = span-vars (l .var) hi y c (h .1) q in omega arith)
 
 every-vars : (hi y : ℕ) (S : Clauses) → Every (Span 0 hi) S → elem y (vars S) ≡ true → (0 < y) × (y ≤ hi)

@@ -1,17 +1,18 @@
 -- The one-literal clause that is taken is the lowest, positive first: no other has a lower rank. Assumes nothing.
 use mathlib.Core.Path.{_≡_, refl, sym, ap, _∙_, subst}
 use mathlib.Core.Logic.{_≢_}
-use mathlib.Core.Bool.{Bool, true, false, not, cond, _&&_}
+use mathlib.Core.Bool.{Bool, true, false, cond, _&&_}
 use mathlib.Core.List.{[], _∷_}
 use mathlib.Core.Option.{Option, none, some}
 use Prim.Native.Nat.{ℕ, _+_, _*_, _≤_}
 use native.Mathlib.Omega.{arith}
-use lib.Dec.{T, eqb, ltb, ltb→lt, nltb→le}
+use lib.Dec.{eqb, ltb}
+use borrow.Author.Tests.{eqb-true, ltb-true, ltb-false}
 use Rattle.paper.specs.declared.Lit.{Lit}
 use Rattle.paper.specs.Clauses.{Clause, Clauses}
 use Rattle.paper.specs.Circuit.{ahead, first, unit, same}
 use Rattle.paper.specs.Lists.{any}
-use Rattle.paper.proofs.Basic.{never, or-e, or-f, or-l, or-r, and-e, and-i, by, eqb-t, eqb-same}
+use Rattle.paper.proofs.Basic.{never, or-e, or-f, or-l, or-r, and-e, and-i, by, eqb-same}
 use Rattle.paper.proofs.Lists.{beq-same}
 
 abbrev pub low : Bool → ℕ
@@ -30,17 +31,17 @@ ahead-t l m h =
     let a = low-le (l .sign) in
     let b = low-le (m .sign) in
     or-e (ltb (l .var) (m .var)) (eqb (l .var) (m .var) && l .sign) h
-    (λ e. let k = ltb→lt (l .var) (m .var) (subst T (sym e) tt) in omega arith)
-    (λ e. let d = and-e (eqb (l .var) (m .var)) (l .sign) e in let k = eqb-t (l .var) (m .var) (d .0) in let z = ap low (d .1) in omega arith)
+    (λ e. let k = ltb-true (l .var) (m .var) e in omega arith)
+    (λ e. let d = and-e (eqb (l .var) (m .var)) (l .sign) e in let k = eqb-true (l .var) (m .var) (d .0) in let z = ap low (d .1) in omega arith)
 
 ahead-f : (l m : Lit) → ahead l m ≡ false → rank m ≤ rank l
 ahead-f l m h =
     let a = low-le (l .sign) in
     let b = low-le (m .sign) in
     let f = or-f (ltb (l .var) (m .var)) (eqb (l .var) (m .var) && l .sign) h in
-    let k = nltb→le (l .var) (m .var) (subst (λ b. T (not b)) (sym (f .0)) tt) in
+    let k = ltb-false (l .var) (m .var) (f .0) in
     by (eqb (l .var) (m .var))
-    (λ e. let s : l .sign ≡ false = sym (ap (λ b. b && l .sign) e) ∙ f .1 in let z = ap low s in let v = eqb-t (l .var) (m .var) e in omega arith)
+    (λ e. let s : l .sign ≡ false = sym (ap (λ b. b && l .sign) e) ∙ f .1 in let z = ap low s in let v = eqb-true (l .var) (m .var) e in omega arith)
     (λ e. let d : l .var ≢ m .var = λ q. never (subst (λ x. eqb (l .var) x ≡ true) q (eqb-same (l .var))) e in omega arith)
 
 -- no one-literal clause of S ranks below l
