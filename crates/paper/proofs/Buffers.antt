@@ -45,6 +45,11 @@ table-length (r ∷ t) =
     let c = table-length t in
     omega arith
 
+-- room is at most 65,536
+pub room-most : (buf : List ℕ) → room buf ≤ 65536
+unfolding room
+room-most buf = omega arith
+
 -- a table of at most room rows
 module _ (t : Table) (buf : List ℕ) (fits : length t ≤ room buf) where
   -- room counts whole rows

@@ -54,3 +54,6 @@ pub mod Buffers
 pub mod Permitted
 pub mod ReadBack
 pub mod Called
+-- document 01's cases, computed
+pub mod Sheets
+pub mod Cases

@@ -70,7 +70,7 @@ rowBytes r = each (rowNumbers r) bytes4
 unfoldable pub room : List ℕ → ℕ
 room buf = min (length buf / rowSize) 65536
 
--- ---- compile: horizon 0..8, effort limit, room
+-- ---- compile: horizon 0..8, effort limit, k rows of room
 abbrev pub compileSheet : ℕ → ℕ → ℕ → Sheet → Compiled
 compileSheet n limit k p = cond (leb n 8) (Compiled.Answered (builtOf limit k (theory p n))) (Compiled.Refused BadCall)
 
@@ -213,7 +213,7 @@ atHorizon p n next (Built.Whole e k i) = let o = next e k i in searched p n e k 
 abbrev pub noPlan : Sheet → ℕ → ℕ → ℕ → ℕ → Outcome
 noPlan p n e k i = record { answer = Planned.NoPlan n e k i; table = compile (theory p n) .table; schedule = [] }
 
--- from horizon n on, with k horizons after it
+-- from horizon n on, with h horizons after it; k is room
 unfoldable pub planFrom : Sheet → ℕ → ℕ → ℕ → ℕ → Outcome
 planFrom p limit k zero n = atHorizon p n (noPlan p n) (builtOf limit k (theory p n))
 planFrom p limit k (suc h) n = let o = planFrom p limit k h (n + 1) in atHorizon p n (λ e j i. o) (builtOf limit k (theory p n))

@@ -2,9 +2,9 @@
 -- Assumes nothing.
 use mathlib.Core.List.{List, [], _∷_, _++_}
 use Prim.Native.Nat.{ℕ, _+_, _*_, _/_, _%_}
-use lib.ListN.{length}
+use lib.ListN.{length, replicate}
 use Rattle.paper.specs.Lists.{each}
 use Rattle.paper.specs.Sheet.{Need, Rule, Masks}
 
 -- the bytes of sheet D as document 01 prints them
 abbrev pub D : List ℕ
@@ -43,6 +43,11 @@ sheet f ns rs is gs h =
     ++ low f ++ low (length ns) ++ low (length rs) ++ low (length is) ++ low (length gs) ++ low h
     ++ low (4 * length ns + 10 * length rs + 4 * length is + 4 * length gs)
     ++ (0x52 ∷ 0x53 ∷ [])
+
+-- every count at its bound: 432 bytes
+unfoldable pub largest : List ℕ
+unfolding sheet
+largest = sheet 12 (replicate 12 (need 0 0)) (replicate 24 (rule 12 0 0 0 0)) (replicate 16 (clause 4095 0)) (replicate 16 (clause 0 4095)) 8
 
 -- sheet D with other start clauses and another H
 unfoldable pub like-D : List Masks → ℕ → List ℕ

@@ -4,16 +4,16 @@ use mathlib.Core.Bool.{Bool, true, false, cond}
 use mathlib.Core.List.{List, [], _∷_, _++_}
 use Prim.Native.Nat.{ℕ, _+_, _*_}
 use lib.ListN.{length, set, take, drop, replicate}
 use Rattle.paper.specs.declared.Lit.{Lit}
 use Rattle.paper.specs.Lists.{each, computed-Lists}
 use Rattle.paper.specs.Counting.{computed-Counting}
 use Rattle.paper.specs.Sheet.{Sheet, Decoded, decode, computed-Sheet}
 use Rattle.paper.specs.Step.{computed-Step}
 use Rattle.paper.specs.Clauses.{Clause, Clauses, theory, yes·, no·, computed-Clauses}
 use Rattle.paper.specs.Circuit.{computed-Circuit}
 use Rattle.paper.specs.Operations.{onSheet, bytes4, checkOf, runOf, compileOf, judgeOf, Outcome, planOf, computed-Operations}
 use Rattle.paper.specs.Answers.{checkCode, checkNumbers, runCode, runNumbers, compileCode, compileNumbers, judgeCode, judgeNumbers, planCode, planNumbers, Left, LeftRows, LeftPlan, told, checkLeft, compileLeft, planLeft, computed-Answers}
-use Rattle.cases.specs.Sheets.{D, need, rule, clause, sheet, like-D, one-action, goals}
+use Rattle.paper.proofs.Sheets.{D, need, rule, clause, sheet, largest, like-D, one-action, goals}
 
 -- what is asked: bytes as they are; the clauses of T(P); the five operations; what buffers hold after a call
 pub data Ask : Type 0 where
@@ -27,6 +27,7 @@ pub data Ask : Type 0 where
   slice-after : List ℕ → List ℕ → Ask
   rows-after : List ℕ → ℕ → ℕ → List ℕ → Ask
   plan-after : List ℕ → ℕ → List ℕ → List ℕ → Ask
+  schedule-after : List ℕ → ℕ → List ℕ → List ℕ → Ask
 
 -- a literal as 2 * variable, 1 more where it is negative; 0 ends a clause
 abbrev ofLit : Lit → ℕ
@@ -47,6 +48,7 @@ reply (plan b limit room n) = let o = planOf b limit room n in planCode (o .answ
 reply (slice-after b slice) = checkLeft b slice .answer
 reply (rows-after b n limit buf) = compileLeft b n limit buf [] .rows
 reply (plan-after b limit buf sch) = let o = planLeft b limit buf sch [] in o .rows ++ o .schedule
+reply (schedule-after b limit buf sch) = planLeft b limit buf sch [] .schedule
 
 pub record Case : Type 0 where
   pub ask : Ask
@@ -78,7 +80,7 @@ plans =
     ∷ []
 
 right-plans : Right plans
-unfolding sheet like-D one-action goals computed-Lists computed-Counting computed-Sheet computed-Step computed-Clauses computed-Circuit computed-Operations computed-Answers
+unfolding sheet largest like-D one-action goals computed-Lists computed-Counting computed-Sheet computed-Step computed-Clauses computed-Circuit computed-Operations computed-Answers
 right-plans = (refl, (refl, (refl, (refl, (refl, (refl, (refl, tt)))))))
 
 -- runs: those marked (p), then a clash of unions, the empty schedule, and what 10 refuses
@@ -100,11 +102,13 @@ runs =
     ∷ (run D 3 (0 ∷ 0 ∷ 0 ∷ 0 ∷ 0 ∷ 0 ∷ 0 ∷ 0 ∷ []) gives 0 ∷ 0 ∷ 8 ∷ 3 ∷ 1 ∷ [])
     ∷ (run D 3 (0 ∷ 0 ∷ 0 ∷ 0 ∷ 0 ∷ 0 ∷ 0 ∷ 0 ∷ 0 ∷ []) gives 10 ∷ 0 ∷ 0 ∷ 0 ∷ 0 ∷ [])
     ∷ (run (sheet 2 (need 0 0 ∷ need 0 1 ∷ []) (rule 1 0 0 0 1 ∷ rule 2 0 0 2 0 ∷ []) [] (clause 2 0 ∷ []) 2) 1 (2 ∷ 3 ∷ []) gives 10 ∷ 0 ∷ 0 ∷ 0 ∷ 0 ∷ [])
+    ∷ (run largest 0 (12 ∷ []) gives 0 ∷ 0 ∷ 1 ∷ 0 ∷ 1 ∷ [])
+    ∷ (run largest 4095 (0 ∷ 0 ∷ 0 ∷ 0 ∷ 0 ∷ 0 ∷ 0 ∷ 0 ∷ []) gives 0 ∷ 0 ∷ 8 ∷ 4095 ∷ 0 ∷ [])
     ∷ []
 
 right-runs : Right runs
-unfolding sheet like-D one-action goals computed-Lists computed-Counting computed-Sheet computed-Step computed-Clauses computed-Circuit computed-Operations computed-Answers
-right-runs = (refl, (refl, (refl, (refl, (refl, (refl, (refl, (refl, (refl, (refl, (refl, (refl, (refl, (refl, (refl, (refl, tt))))))))))))))))
+unfolding sheet largest like-D one-action goals computed-Lists computed-Counting computed-Sheet computed-Step computed-Clauses computed-Circuit computed-Operations computed-Answers
+right-runs = (refl, (refl, (refl, (refl, (refl, (refl, (refl, (refl, (refl, (refl, (refl, (refl, (refl, (refl, (refl, (refl, (refl, (refl, tt))))))))))))))))))
 
 -- circuits: those marked (p), then clauses that always hold, blank clauses, parts, signs and D at horizons 0 to 3
 abbrev pub circuits : List Case
@@ -129,11 +133,12 @@ circuits =
     ∷ (compile D 1 99 400 gives 0 ∷ 0 ∷ 0 ∷ 5 ∷ 45 ∷ 44 ∷ [])
     ∷ (compile D 2 99 400 gives 0 ∷ 0 ∷ 0 ∷ 15 ∷ 104 ∷ 103 ∷ [])
     ∷ (compile D 3 99 400 gives 0 ∷ 0 ∷ 0 ∷ 37 ∷ 166 ∷ 165 ∷ [])
+    ∷ (compile (goals 1 []) 8 99 400 gives 0 ∷ 0 ∷ 0 ∷ 1 ∷ 37 ∷ 36 ∷ [])
     ∷ []
 
 right-circuits : Right circuits
-unfolding sheet like-D one-action goals computed-Lists computed-Counting computed-Sheet computed-Step computed-Clauses computed-Circuit computed-Operations computed-Answers
-right-circuits = (refl, (refl, (refl, (refl, (refl, (refl, (refl, (refl, (refl, (refl, (refl, (refl, (refl, (refl, (refl, (refl, (refl, (refl, (refl, (refl, tt))))))))))))))))))))
+unfolding sheet largest like-D one-action goals computed-Lists computed-Counting computed-Sheet computed-Step computed-Clauses computed-Circuit computed-Operations computed-Answers
+right-circuits = (refl, (refl, (refl, (refl, (refl, (refl, (refl, (refl, (refl, (refl, (refl, (refl, (refl, (refl, (refl, (refl, (refl, (refl, (refl, (refl, (refl, tt)))))))))))))))))))))
 
 -- both limits against the whole circuit, and the order of the refusals
 abbrev pub limits : List Case
@@ -160,7 +165,7 @@ limits =
     ∷ []
 
 right-limits : Right limits
-unfolding sheet like-D one-action goals computed-Lists computed-Counting computed-Sheet computed-Step computed-Clauses computed-Circuit computed-Operations computed-Answers
+unfolding sheet largest like-D one-action goals computed-Lists computed-Counting computed-Sheet computed-Step computed-Clauses computed-Circuit computed-Operations computed-Answers
 right-limits = (refl, (refl, (refl, (refl, (refl, (refl, (refl, (refl, (refl, (refl, (refl, (refl, (refl, (refl, (refl, (refl, (refl, (refl, (refl, tt)))))))))))))))))))
 
 -- starts counted, and what 1, 2, 3 and 4 refuse, with place
@@ -187,11 +192,17 @@ sheets =
     ∷ (check (set D 26 2) gives 4 ∷ 18 ∷ 0 ∷ [])
     ∷ (check (like-D (clause 3 3 ∷ clause 0 4 ∷ []) 2) gives 4 ∷ 32 ∷ 0 ∷ [])
     ∷ (check (set (set D 28 4) 6 4) gives 4 ∷ 4 ∷ 0 ∷ [])
+    ∷ (check (set D 34 13) gives 2 ∷ 0 ∷ 0 ∷ [])
+    ∷ (check (set D 34 0) gives 2 ∷ 0 ∷ 0 ∷ [])
+    ∷ (check (set D 36 25) gives 2 ∷ 0 ∷ 0 ∷ [])
+    ∷ (check (set D 38 17) gives 2 ∷ 0 ∷ 0 ∷ [])
+    ∷ (check (set D 40 17) gives 2 ∷ 0 ∷ 0 ∷ [])
+    ∷ (check (set D 42 9) gives 2 ∷ 0 ∷ 0 ∷ [])
     ∷ []
 
 right-sheets : Right sheets
-unfolding sheet like-D one-action goals computed-Lists computed-Counting computed-Sheet computed-Step computed-Clauses computed-Circuit computed-Operations computed-Answers
-right-sheets = (refl, (refl, (refl, (refl, (refl, (refl, (refl, (refl, (refl, (refl, (refl, (refl, (refl, (refl, (refl, (refl, (refl, (refl, (refl, (refl, (refl, tt)))))))))))))))))))))
+unfolding sheet largest like-D one-action goals computed-Lists computed-Counting computed-Sheet computed-Step computed-Clauses computed-Circuit computed-Operations computed-Answers
+right-sheets = (refl, (refl, (refl, (refl, (refl, (refl, (refl, (refl, (refl, (refl, (refl, (refl, (refl, (refl, (refl, (refl, (refl, (refl, (refl, (refl, (refl, (refl, (refl, (refl, (refl, (refl, (refl, tt)))))))))))))))))))))))))))
 
 -- the clauses of T(P), in their order: a rule that sets nothing, and D at horizon 1
 abbrev pub theories : List Case
@@ -203,7 +214,7 @@ theories =
     ∷ []
 
 right-theories : Right theories
-unfolding sheet like-D one-action goals computed-Lists computed-Counting computed-Sheet computed-Step computed-Clauses computed-Circuit computed-Operations computed-Answers
+unfolding sheet largest like-D one-action goals computed-Lists computed-Counting computed-Sheet computed-Step computed-Clauses computed-Circuit computed-Operations computed-Answers
 right-theories = (refl, (refl, (refl, (refl, tt))))
 
 -- judge: literals of moment 0, of actions and of z, a choice, then 10 and 11
@@ -237,11 +248,24 @@ judged =
     ∷ (judge D 0 (0 ∷ 0 ∷ 0 ∷ 0 ∷ 0 ∷ 0 ∷ 0 ∷ 0 ∷ []) 2 1 0 [] gives 11 ∷ 1 ∷ 0 ∷ [])
     ∷ (judge D 0 (1 ∷ 0 ∷ 0 ∷ 0 ∷ 1 ∷ 0 ∷ 0 ∷ 0 ∷ []) 2 1 0 [] gives 11 ∷ 0 ∷ 0 ∷ [])
     ∷ (judge D 0 (0 ∷ 0 ∷ 0 ∷ 0 ∷ 1 ∷ 0 ∷ 0 ∷ 0 ∷ 2 ∷ 1 ∷ 1 ∷ 0 ∷ 3 ∷ 0 ∷ 3 ∷ 2 ∷ 9 ∷ 9 ∷ 9 ∷ 9 ∷ []) 5 1 0 [] gives 11 ∷ 3 ∷ 0 ∷ [])
+    ∷ (judge D 0 (0 ∷ 0 ∷ 0 ∷ 0 ∷ 1 ∷ 0 ∷ 0 ∷ 0 ∷ 3 ∷ 0 ∷ 1 ∷ 2 ∷ []) 3 1 0 [] gives 11 ∷ 2 ∷ 0 ∷ [])
+    ∷ (judge D 0 (0 ∷ 0 ∷ 0 ∷ 0 ∷ 1 ∷ 0 ∷ 0 ∷ 0 ∷ 4 ∷ 1 ∷ 2 ∷ 1 ∷ []) 3 1 0 [] gives 11 ∷ 2 ∷ 0 ∷ [])
+    ∷ (judge D 0 (0 ∷ 0 ∷ 0 ∷ 0 ∷ 1 ∷ 0 ∷ 0 ∷ 0 ∷ 4 ∷ 1 ∷ 1 ∷ 2 ∷ []) 3 1 0 [] gives 11 ∷ 2 ∷ 0 ∷ [])
+    ∷ (judge D 0 (0 ∷ 0 ∷ 0 ∷ 0 ∷ 1 ∷ 0 ∷ 0 ∷ 0 ∷ 4 ∷ 0 ∷ 0 ∷ 1 ∷ []) 3 1 0 [] gives 11 ∷ 2 ∷ 0 ∷ [])
+    ∷ (judge D 0 (0 ∷ 0 ∷ 0 ∷ 0 ∷ 1 ∷ 0 ∷ 0 ∷ 0 ∷ 4 ∷ 3 ∷ 0 ∷ 1 ∷ []) 3 1 0 [] gives 11 ∷ 2 ∷ 0 ∷ [])
+    ∷ (judge D 0 (0 ∷ 0 ∷ 0 ∷ 0 ∷ 1 ∷ 0 ∷ 0 ∷ 0 ∷ 4 ∷ 2 ∷ 1 ∷ 0 ∷ []) 3 2 0 [] gives 0 ∷ 0 ∷ 1 ∷ [])
+    ∷ (judge D 0 (0 ∷ 0 ∷ 0 ∷ 0 ∷ 4 ∷ 1 ∷ 0 ∷ 0 ∷ []) 2 1 0 [] gives 11 ∷ 1 ∷ 0 ∷ [])
+    ∷ (judge D 1 (0 ∷ 0 ∷ 0 ∷ 0 ∷ 1 ∷ 0 ∷ 0 ∷ 0 ∷ 2 ∷ 5 ∷ 1 ∷ 0 ∷ []) 3 2 0 (1 ∷ 0 ∷ []) gives 0 ∷ 0 ∷ 1 ∷ [])
+    ∷ (judge D 2 (0 ∷ 0 ∷ 0 ∷ 0 ∷ 1 ∷ 0 ∷ 0 ∷ 0 ∷ 2 ∷ 9 ∷ 1 ∷ 0 ∷ []) 3 2 0 (0 ∷ 0 ∷ 1 ∷ 0 ∷ []) gives 0 ∷ 0 ∷ 1 ∷ [])
+    ∷ (judge D 2 (0 ∷ 0 ∷ 0 ∷ 0 ∷ 1 ∷ 0 ∷ 0 ∷ 0 ∷ 2 ∷ 9 ∷ 1 ∷ 0 ∷ []) 3 2 0 (1 ∷ 0 ∷ 0 ∷ 0 ∷ []) gives 0 ∷ 0 ∷ 0 ∷ [])
+    ∷ (judge D 2 (0 ∷ 0 ∷ 0 ∷ 0 ∷ 1 ∷ 0 ∷ 0 ∷ 0 ∷ []) 2 1 0 (0 ∷ 0 ∷ 0 ∷ 4 ∷ []) gives 10 ∷ 0 ∷ 0 ∷ [])
+    ∷ (judge D 8 (0 ∷ 0 ∷ 0 ∷ 0 ∷ 1 ∷ 0 ∷ 0 ∷ 0 ∷ []) 2 1 0 (0 ∷ 0 ∷ 0 ∷ 0 ∷ 0 ∷ 0 ∷ 0 ∷ 0 ∷ 0 ∷ 0 ∷ 0 ∷ 0 ∷ 0 ∷ 0 ∷ 0 ∷ 0 ∷ []) gives 0 ∷ 0 ∷ 1 ∷ [])
+    ∷ (judge D 9 (0 ∷ 0 ∷ 0 ∷ 0 ∷ 1 ∷ 0 ∷ 0 ∷ 0 ∷ []) 2 1 0 (0 ∷ 0 ∷ 0 ∷ 0 ∷ 0 ∷ 0 ∷ 0 ∷ 0 ∷ 0 ∷ 0 ∷ 0 ∷ 0 ∷ 0 ∷ 0 ∷ 0 ∷ 0 ∷ 0 ∷ 0 ∷ []) gives 10 ∷ 0 ∷ 0 ∷ [])
     ∷ []
 
 right-judged : Right judged
-unfolding sheet like-D one-action goals computed-Lists computed-Counting computed-Sheet computed-Step computed-Clauses computed-Circuit computed-Operations computed-Answers
-right-judged = (refl, (refl, (refl, (refl, (refl, (refl, (refl, (refl, (refl, (refl, (refl, (refl, (refl, (refl, (refl, (refl, (refl, (refl, (refl, (refl, (refl, (refl, (refl, (refl, (refl, (refl, (refl, (refl, tt))))))))))))))))))))))))))))
+unfolding sheet largest like-D one-action goals computed-Lists computed-Counting computed-Sheet computed-Step computed-Clauses computed-Circuit computed-Operations computed-Answers
+right-judged = (refl, (refl, (refl, (refl, (refl, (refl, (refl, (refl, (refl, (refl, (refl, (refl, (refl, (refl, (refl, (refl, (refl, (refl, (refl, (refl, (refl, (refl, (refl, (refl, (refl, (refl, (refl, (refl, (refl, (refl, (refl, (refl, (refl, (refl, (refl, (refl, (refl, (refl, (refl, (refl, (refl, tt)))))))))))))))))))))))))))))))))))))))))
 
 -- what the buffers hold after 0, 7, 8, 9 and a refusal: the answer slice, the rows, the schedule
 abbrev pub buffers : List Case
@@ -261,11 +285,17 @@ buffers =
     ∷ (plan-after (like-D (clause 0 0 ∷ []) 2) 9 (replicate 16 9) (8 ∷ 8 ∷ []) gives replicate 16 9 ++ (8 ∷ 8 ∷ []))
     ∷ (plan-after (like-D (clause 2 0 ∷ []) 2) 9 (replicate 16 9) (8 ∷ []) gives replicate 16 9 ++ (8 ∷ []))
     ∷ (plan-after (one-action 3 (rule 1 0 0 0 1 ∷ []) (clause 1 0 ∷ []) (clause 0 3 ∷ clause 4 0 ∷ clause 0 4 ∷ [])) 9 (replicate 96 9) (8 ∷ 8 ∷ []) gives (each (0 ∷ 0 ∷ 0 ∷ 0 ∷ 1 ∷ 0 ∷ 0 ∷ 0 ∷ 2 ∷ 1 ∷ 1 ∷ 0 ∷ 2 ∷ 8 ∷ 1 ∷ 0 ∷ []) bytes4) ++ replicate 32 0 ++ (8 ∷ 8 ∷ []))
+    ∷ (schedule-after D 99 (replicate 1664 9) (9 ∷ 9 ∷ 9 ∷ []) gives 1 ∷ 2 ∷ 9 ∷ [])
+    ∷ (schedule-after (like-D [] 1) 99 (replicate 720 9) (9 ∷ 9 ∷ []) gives 9 ∷ 9 ∷ [])
+    ∷ (schedule-after D 99 (replicate 1663 9) (9 ∷ 9 ∷ []) gives 9 ∷ 9 ∷ [])
+    ∷ (schedule-after D 99 (replicate 1664 9) (9 ∷ []) gives 9 ∷ [])
+    ∷ (slice-after (goals 9 []) (9 ∷ 9 ∷ 9 ∷ 9 ∷ 9 ∷ 9 ∷ 9 ∷ 9 ∷ []) gives 0 ∷ 0 ∷ 0 ∷ 0 ∷ 0 ∷ 2 ∷ 0 ∷ 0 ∷ [])
+    ∷ (plan-after (goals 2 (clause 3 0 ∷ [])) 0 (replicate 33 9) (8 ∷ 8 ∷ []) gives replicate 32 0 ++ (9 ∷ 8 ∷ 8 ∷ []))
     ∷ []
 
 right-buffers : Right buffers
-unfolding sheet like-D one-action goals computed-Lists computed-Counting computed-Sheet computed-Step computed-Clauses computed-Circuit computed-Operations computed-Answers
-right-buffers = (refl, (refl, (refl, (refl, (refl, (refl, (refl, (refl, (refl, (refl, (refl, (refl, (refl, (refl, (refl, tt)))))))))))))))
+unfolding sheet largest like-D one-action goals computed-Lists computed-Counting computed-Sheet computed-Step computed-Clauses computed-Circuit computed-Operations computed-Answers
+right-buffers = (refl, (refl, (refl, (refl, (refl, (refl, (refl, (refl, (refl, (refl, (refl, (refl, (refl, (refl, (refl, (refl, (refl, (refl, (refl, (refl, (refl, tt)))))))))))))))))))))
 
 -- the whole table
 abbrev pub table : List (List Case)
