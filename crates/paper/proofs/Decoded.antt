@@ -7,10 +7,11 @@ use native.Mathlib.Omega.{arith}
 use lib.Dec.{eqb, leb}
 use lib.ListN.{length, length-map}
 use borrow.Author.Tests.{eqb-true, leb-true}
+use Rattle.paper.specs.declared.Trailer.{Trailer}
 use Rattle.paper.specs.declared.Fault.{Fault}
 use Rattle.paper.specs.declared.Fault.the-variants.{Unmarked, Unbounded, Disagrees}
 use Rattle.paper.specs.Lists.{all, filter, upFrom}
-use Rattle.paper.specs.Sheet.{Sheet, Trailer, trailer, marked, within, agrees, goodNeed, goodRule, goodMasks, needAt, ruleAt, masksAt, offsets, needsAt, rulesAt, startsAt, goalsAt, badRows, sheetOf, Decoded, decoded, unless, noRow, decode, Fine, bodyLength, trailerLength, bodyAt}
+use Rattle.paper.specs.Sheet.{Sheet, trailer, marked, within, agrees, goodNeed, goodRule, goodMasks, needAt, ruleAt, masksAt, offsets, needsAt, rulesAt, startsAt, goalsAt, badRows, sheetOf, Decoded, decoded, unless, noRow, decode, Fine, bodyLength, trailerLength, bodyAt}
 use Rattle.paper.proofs.Basic.{and-e, by}
 use Rattle.paper.proofs.Lists.{all-map}
 
@@ -44,34 +45,34 @@ rows-count f o w n = length-map (map (λ i. o + w * i) (upFrom 0 n)) f ∙ lengt
 
 -- the counts are within their bounds
 pub record Bounded (t : Trailer) : Type 0 where
-  pub facts-least : 1 ≤ t .tF
-  pub facts-most : t .tF ≤ 12
-  pub actions-least : 1 ≤ t .tA
-  pub actions-most : t .tA ≤ 12
-  pub rules-most : t .tR ≤ 24
-  pub starts-most : t .tI ≤ 16
-  pub goals-most : t .tG ≤ 16
-  pub horizon-most : t .tH ≤ 8
+  pub facts-least : 1 ≤ t .facts
+  pub facts-most : t .facts ≤ 12
+  pub actions-least : 1 ≤ t .actions
+  pub actions-most : t .actions ≤ 12
+  pub rules-most : t .rules ≤ 24
+  pub starts-most : t .starts ≤ 16
+  pub goals-most : t .goals ≤ 16
+  pub horizon-most : t .horizon ≤ 8
 
 pub within-bounded : (t : Trailer) → within t ≡ true → Bounded t
 unfolding within
 within-bounded t h =
-    let w = and-e (leb 1 (t .tF) && leb (t .tF) 12) ((leb 1 (t .tA) && leb (t .tA) 12) && (leb (t .tR) 24 && (leb (t .tI) 16 && (leb (t .tG) 16 && leb (t .tH) 8)))) h in
-    let f = and-e (leb 1 (t .tF)) (leb (t .tF) 12) (w .0) in
-    let ga = and-e (leb 1 (t .tA) && leb (t .tA) 12) (leb (t .tR) 24 && (leb (t .tI) 16 && (leb (t .tG) 16 && leb (t .tH) 8))) (w .1) in
-    let a = and-e (leb 1 (t .tA)) (leb (t .tA) 12) (ga .0) in
-    let gr = and-e (leb (t .tR) 24) (leb (t .tI) 16 && (leb (t .tG) 16 && leb (t .tH) 8)) (ga .1) in
-    let gi = and-e (leb (t .tI) 16) (leb (t .tG) 16 && leb (t .tH) 8) (gr .1) in
-    let gg = and-e (leb (t .tG) 16) (leb (t .tH) 8) (gi .1) in
+    let w = and-e (leb 1 (t .facts) && leb (t .facts) 12) ((leb 1 (t .actions) && leb (t .actions) 12) && (leb (t .rules) 24 && (leb (t .starts) 16 && (leb (t .goals) 16 && leb (t .horizon) 8)))) h in
+    let f = and-e (leb 1 (t .facts)) (leb (t .facts) 12) (w .0) in
+    let ga = and-e (leb 1 (t .actions) && leb (t .actions) 12) (leb (t .rules) 24 && (leb (t .starts) 16 && (leb (t .goals) 16 && leb (t .horizon) 8))) (w .1) in
+    let a = and-e (leb 1 (t .actions)) (leb (t .actions) 12) (ga .0) in
+    let gr = and-e (leb (t .rules) 24) (leb (t .starts) 16 && (leb (t .goals) 16 && leb (t .horizon) 8)) (ga .1) in
+    let gi = and-e (leb (t .starts) 16) (leb (t .goals) 16 && leb (t .horizon) 8) (gr .1) in
+    let gg = and-e (leb (t .goals) 16) (leb (t .horizon) 8) (gi .1) in
     record {
-      facts-least = leb-true 1 (t .tF) (f .0);
-      facts-most = leb-true (t .tF) 12 (f .1);
-      actions-least = leb-true 1 (t .tA) (a .0);
-      actions-most = leb-true (t .tA) 12 (a .1);
-      rules-most = leb-true (t .tR) 24 (gr .0);
-      starts-most = leb-true (t .tI) 16 (gi .0);
-      goals-most = leb-true (t .tG) 16 (gg .0);
-      horizon-most = leb-true (t .tH) 8 (gg .1);
+      facts-least = leb-true 1 (t .facts) (f .0);
+      facts-most = leb-true (t .facts) 12 (f .1);
+      actions-least = leb-true 1 (t .actions) (a .0);
+      actions-most = leb-true (t .actions) 12 (a .1);
+      rules-most = leb-true (t .rules) 24 (gr .0);
+      starts-most = leb-true (t .starts) 16 (gi .0);
+      goals-most = leb-true (t .goals) 16 (gg .0);
+      horizon-most = leb-true (t .horizon) 8 (gg .1);
     }
 
 -- what an accepted file is
@@ -120,9 +121,9 @@ decoded-fine b p h =
     let t : Trailer = trailer b in
     let a = accepted b p h in
     let w = a .bounds in
-    let needs : List ℕ = filter (λ o. not (goodNeed (t .tF) (needAt b o))) (needsAt b t) in
-    let rules : List ℕ = filter (λ o. not (goodRule (t .tF) (t .tA) (ruleAt b o))) (rulesAt b t) in
-    let starts : List ℕ = filter (λ o. not (goodMasks (t .tF) (masksAt b o))) (startsAt b t) in
+    let needs : List ℕ = filter (λ o. not (goodNeed (t .facts) (needAt b o))) (needsAt b t) in
+    let rules : List ℕ = filter (λ o. not (goodRule (t .facts) (t .actions) (ruleAt b o))) (rulesAt b t) in
+    let starts : List ℕ = filter (λ o. not (goodMasks (t .facts) (masksAt b o))) (startsAt b t) in
     let g4 = nil-e ((needs ++ rules) ++ starts) _ (a .clear) in
     let g3 = nil-e (needs ++ rules) starts (g4 .0) in
     let g2 = nil-e needs rules (g3 .0) in
@@ -132,13 +133,13 @@ decoded-fine b p h =
       actions-least = w .actions-least;
       actions-most = w .actions-most;
       rules-most = w .rules-most;
-      starts-most = rw (rows-count (masksAt b) _ 4 (t .tI)) (w .starts-most);
-      goals-most = rw (rows-count (masksAt b) _ 4 (t .tG)) (w .goals-most);
+      starts-most = rw (rows-count (masksAt b) _ 4 (t .starts)) (w .starts-most);
+      goals-most = rw (rows-count (masksAt b) _ 4 (t .goals)) (w .goals-most);
       horizon-most = w .horizon-most;
-      needs-count = rows-count (needAt b) _ 4 (t .tA);
-      rules-count = rows-count (ruleAt b) _ 10 (t .tR);
-      needs-fine = all-map (goodNeed (t .tF)) (needAt b) (needsAt b t) ∙ none-fails (λ o. goodNeed (t .tF) (needAt b o)) (needsAt b t) (g2 .0);
-      rules-fine = all-map (goodRule (t .tF) (t .tA)) (ruleAt b) (rulesAt b t) ∙ none-fails (λ o. goodRule (t .tF) (t .tA) (ruleAt b o)) (rulesAt b t) (g2 .1);
-      starts-fine = all-map (goodMasks (t .tF)) (masksAt b) (startsAt b t) ∙ none-fails (λ o. goodMasks (t .tF) (masksAt b o)) (startsAt b t) (g3 .1);
-      goals-fine = all-map (goodMasks (t .tF)) (masksAt b) (goalsAt b t) ∙ none-fails (λ o. goodMasks (t .tF) (masksAt b o)) (goalsAt b t) (g4 .1);
+      needs-count = rows-count (needAt b) _ 4 (t .actions);
+      rules-count = rows-count (ruleAt b) _ 10 (t .rules);
+      needs-fine = all-map (goodNeed (t .facts)) (needAt b) (needsAt b t) ∙ none-fails (λ o. goodNeed (t .facts) (needAt b o)) (needsAt b t) (g2 .0);
+      rules-fine = all-map (goodRule (t .facts) (t .actions)) (ruleAt b) (rulesAt b t) ∙ none-fails (λ o. goodRule (t .facts) (t .actions) (ruleAt b o)) (rulesAt b t) (g2 .1);
+      starts-fine = all-map (goodMasks (t .facts)) (masksAt b) (startsAt b t) ∙ none-fails (λ o. goodMasks (t .facts) (masksAt b o)) (startsAt b t) (g3 .1);
+      goals-fine = all-map (goodMasks (t .facts)) (masksAt b) (goalsAt b t) ∙ none-fails (λ o. goodMasks (t .facts) (masksAt b o)) (goalsAt b t) (g4 .1);
     })

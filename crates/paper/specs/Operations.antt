@@ -10,6 +10,7 @@ use lib.ListN.{length, getD}
 use Rattle.paper.specs.declared.Lit.{Lit}
 use Rattle.paper.specs.declared.Row.{Row}
 use Rattle.paper.specs.declared.Row.the-variants.{False, True, Literal, Conjunction, Choice}
+use Rattle.paper.specs.declared.Run.{Run}
 use Rattle.paper.specs.declared.Fault.{Fault}
 use Rattle.paper.specs.declared.Fault.the-variants.{ShortSchedule, NoStart, BadCall, BadTable}
 use Rattle.paper.specs.declared.Checked.{Checked}
@@ -21,7 +22,7 @@ use Rattle.paper.specs.declared.Planned.{Planned}
 use Rattle.paper.specs.Lists.{all, filter, each, upFrom}
 use Rattle.paper.specs.Counting.{bit}
 use Rattle.paper.specs.Sheet.{Sheet, Decoded, refused, decoded, word, fits, decode, isGoal, startCount}
-use Rattle.paper.specs.Step.{Run, run, entriesFit, isPlan}
+use Rattle.paper.specs.Step.{run, entriesFit, isPlan}
 use Rattle.paper.specs.Clauses.{Assign, holds, stride, variables, theory}
 use Rattle.paper.specs.Circuit.{rowNumbers, sameNumbers, Table, compile, builtOf, valueAt}
 

@@ -6,6 +6,7 @@ use mathlib.Core.List.{List, [], _∷_, _++_, map}
 use Prim.Native.Nat.{ℕ, _+_, _-_, _*_, _^_, _≤_}
 use lib.Dec.{eqb, ltb, leb}
 use lib.ListN.{length, getD}
+use Rattle.paper.specs.declared.Trailer.{Trailer}
 use Rattle.paper.specs.declared.Fault.{Fault}
 use Rattle.paper.specs.declared.Fault.the-variants.{Unmarked, Unbounded, Disagrees, BadRow}
 use Rattle.paper.specs.Lists.{all, filter, upFrom}
@@ -42,15 +43,6 @@ pub record Sheet : Type 0 where
 abbrev pub word : List ℕ → ℕ → ℕ
 word b at = getD b at 0 + 256 * getD b (at + 1) 0
 
-pub record Trailer : Type 0 where
-  pub tF : ℕ
-  pub tA : ℕ
-  pub tR : ℕ
-  pub tI : ℕ
-  pub tG : ℕ
-  pub tH : ℕ
-  pub back : ℕ
-
 -- the trailer is the file's last 16 bytes
 abbrev pub trailerLength : ℕ
 trailerLength = 16
@@ -58,7 +50,7 @@ trailerLength = 16
 unfoldable pub trailer : List ℕ → Trailer
 trailer b =
     let t : ℕ = length b - trailerLength in
-    record { tF = word b t; tA = word b (t + 2); tR = word b (t + 4); tI = word b (t + 6); tG = word b (t + 8); tH = word b (t + 10); back = word b (t + 12) }
+    record { facts = word b t; actions = word b (t + 2); rules = word b (t + 4); starts = word b (t + 6); goals = word b (t + 8); horizon = word b (t + 10); back = word b (t + 12) }
 
 -- back is the number of bytes from the trailer back to the body's first byte
 unfoldable pub bodyAt : List ℕ → Trailer → ℕ
@@ -66,7 +58,7 @@ bodyAt b t = length b - trailerLength - t .back
 
 -- the bytes of the body: actions, rules, start clauses, goal clauses
 unfoldable pub bodyLength : Trailer → ℕ
-bodyLength t = 4 * t .tA + 10 * t .tR + 4 * t .tI + 4 * t .tG
+bodyLength t = 4 * t .actions + 10 * t .rules + 4 * t .starts + 4 * t .goals
 
 -- 1: under 16 bytes, or the mark is not the bytes 52 53
 unfoldable pub marked : List ℕ → Bool
@@ -75,7 +67,7 @@ marked b = leb trailerLength (length b) && eqb (getD b (length b - 2) 0) 0x52 &&
 -- 2: a count outside its bounds
 unfoldable pub within : Trailer → Bool
 within t =
-    (leb 1 (t .tF) && leb (t .tF) 12) && ((leb 1 (t .tA) && leb (t .tA) 12) && (leb (t .tR) 24 && (leb (t .tI) 16 && (leb (t .tG) 16 && leb (t .tH) 8))))
+    (leb 1 (t .facts) && leb (t .facts) 12) && ((leb 1 (t .actions) && leb (t .actions) 12) && (leb (t .rules) 24 && (leb (t .starts) 16 && (leb (t .goals) 16 && leb (t .horizon) 8))))
 
 -- 3: back or length disagrees
 unfoldable pub agrees : List ℕ → Trailer → Bool
@@ -112,32 +104,32 @@ offsets o w n = map (λ i. o + w * i) (upFrom 0 n)
 
 -- the parts in order, without gaps: actions, rules, start clauses, goal clauses
 unfoldable pub needsAt : List ℕ → Trailer → List ℕ
-needsAt b t = offsets (bodyAt b t) 4 (t .tA)
+needsAt b t = offsets (bodyAt b t) 4 (t .actions)
 
 unfoldable pub rulesAt : List ℕ → Trailer → List ℕ
-rulesAt b t = offsets (bodyAt b t + 4 * t .tA) 10 (t .tR)
+rulesAt b t = offsets (bodyAt b t + 4 * t .actions) 10 (t .rules)
 
 unfoldable pub startsAt : List ℕ → Trailer → List ℕ
-startsAt b t = offsets (bodyAt b t + 4 * t .tA + 10 * t .tR) 4 (t .tI)
+startsAt b t = offsets (bodyAt b t + 4 * t .actions + 10 * t .rules) 4 (t .starts)
 
 unfoldable pub goalsAt : List ℕ → Trailer → List ℕ
-goalsAt b t = offsets (bodyAt b t + 4 * t .tA + 10 * t .tR + 4 * t .tI) 4 (t .tG)
+goalsAt b t = offsets (bodyAt b t + 4 * t .actions + 10 * t .rules + 4 * t .starts) 4 (t .goals)
 
 -- the offsets of the rows that break 4, in the order of the file
 unfoldable pub badRows : List ℕ → Trailer → List ℕ
 badRows b t =
-    filter (λ o. not (goodNeed (t .tF) (needAt b o))) (needsAt b t)
-    ++ filter (λ o. not (goodRule (t .tF) (t .tA) (ruleAt b o))) (rulesAt b t)
-    ++ filter (λ o. not (goodMasks (t .tF) (masksAt b o))) (startsAt b t)
-    ++ filter (λ o. not (goodMasks (t .tF) (masksAt b o))) (goalsAt b t)
+    filter (λ o. not (goodNeed (t .facts) (needAt b o))) (needsAt b t)
+    ++ filter (λ o. not (goodRule (t .facts) (t .actions) (ruleAt b o))) (rulesAt b t)
+    ++ filter (λ o. not (goodMasks (t .facts) (masksAt b o))) (startsAt b t)
+    ++ filter (λ o. not (goodMasks (t .facts) (masksAt b o))) (goalsAt b t)
 
 unfoldable pub sheetOf : List ℕ → Trailer → Sheet
 sheetOf b t =
     record {
-      F = t .tF;
-      A = t .tA;
-      R = t .tR;
-      H = t .tH;
+      F = t .facts;
+      A = t .actions;
+      R = t .rules;
+      H = t .horizon;
       needs = map (needAt b) (needsAt b t);
       rules = map (ruleAt b) (rulesAt b t);
       starts = map (masksAt b) (startsAt b t);

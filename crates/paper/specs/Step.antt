@@ -5,6 +5,7 @@ use mathlib.Core.List.{List, [], _∷_, map}
 use Prim.Native.Nat.{ℕ, zero, suc, _+_, _^_}
 use lib.Dec.{eqb, leb}
 use lib.ListN.{getD}
+use Rattle.paper.specs.declared.Run.{Run}
 use Rattle.paper.specs.declared.Stepped.{Stepped}
 use Rattle.paper.specs.declared.Stepped.the-variants.{Ran, NeedUnmet, Clashed}
 use Rattle.paper.specs.Lists.{any, all, filter, upFrom}
@@ -64,12 +65,6 @@ step p (suc a) s = act p a s
 -- every entry of a schedule is 0..A
 unfoldable pub entriesFit : Sheet → List ℕ → Bool
 entriesFit p σ = all (λ e. leb e (p .A)) σ
-
--- steps done, the state reached, and whether no step failed
-pub record Run : Type 0 where
-  pub done : ℕ
-  pub state : ℕ
-  pub whole : Bool
 
 -- a run goes on from the state that a step leads to; a step that fails ends it
 abbrev pub onward : Stepped → Run → (ℕ → Run) → Run

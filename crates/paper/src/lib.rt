@@ -41,6 +41,17 @@ impl Step {
     }
 }
 
+// A sheet's trailer: how many facts, actions, rules, start clauses and goal clauses; the horizon; the bytes back to the body.
+pub struct Trailer {
+    pub facts: usize,
+    pub actions: usize,
+    pub rules: usize,
+    pub starts: usize,
+    pub goals: usize,
+    pub horizon: usize,
+    pub back: usize,
+}
+
 // A variable of T(P), or its opposite.
 pub struct Lit {
     pub var: u32,
@@ -61,6 +72,13 @@ pub enum Stepped {
     Ran(u16),
     NeedUnmet,
     Clashed,
+}
+
+// A schedule from a state: steps done, the state reached, and whether no step failed.
+pub struct Run {
+    pub done: usize,
+    pub state: u16,
+    pub whole: bool,
 }
 
 // What refuses a call and leaves every buffer but the answer untouched. Three know a place.
