@@ -1,0 +1,3 @@
+pub mod Below
+pub mod Machine
+pub mod Filled
