@@ -1,0 +1,113 @@
+// What comes back: the code and the numbers of an answer, and the answer slice that takes them.
+use paper::Checked;
+use paper::Ended;
+use paper::Fault;
+ghost use mathlib.Core.Path.{_≡_};
+ghost use mathlib.Core.Bool.{cond};
+ghost use mathlib.Core.List.{_++_};
+ghost use Prim.Native.Nat.{_≤_};
+ghost use lib.ListN.{length, drop};
+ghost use Rattle.paper.specs.Operations.{bytes4};
+ghost use Rattle.paper.specs.Answers.{faultCode, faultPlace, checkCode, checkNumbers, runCode, runNumbers, told};
+
+// A refusal's number.
+fn fault_code(f: Fault) -> u32
+    ensures { λ r. ⌜ r ≡ faultCode f ⌝ }
+{
+    match f {
+        Fault::Unmarked => 1,
+        Fault::Unbounded => 2,
+        Fault::Disagrees => 3,
+        Fault::BadRow(_) => 4,
+        Fault::ShortSchedule => 5,
+        Fault::NoStart => 6,
+        Fault::BadCall => 10,
+        Fault::BadTable(_) => 11,
+    }
+}
+
+// A refusal's place.
+fn fault_place(f: Fault) -> u32
+    ensures { λ r. ⌜ r ≡ faultPlace f ⌝ }
+{
+    match f {
+        Fault::Unmarked => 0,
+        Fault::Unbounded => 0,
+        Fault::Disagrees => 0,
+        Fault::BadRow(at) => at,
+        Fault::ShortSchedule => 0,
+        Fault::NoStart => 0,
+        Fault::BadCall => 0,
+        Fault::BadTable(i) => i,
+    }
+}
+
+pub fn check_code(c: Checked) -> u32
+    ensures { λ r. ⌜ r ≡ checkCode c ⌝ }
+{
+    match c {
+        Checked::Refused(f) => fault_code(f),
+        Checked::Starts(_) => 0,
+    }
+}
+
+// Place and count.
+pub fn check_numbers(c: Checked) -> [u32; 2]
+    ensures { λ r. ⌜ r ≡ checkNumbers c ⌝ }
+{
+    match c {
+        Checked::Refused(f) => [fault_place(f), 0],
+        Checked::Starts(n) => [0, n],
+    }
+}
+
+pub fn run_code(e: Ended) -> u32
+    ensures { λ r. ⌜ r ≡ runCode e ⌝ }
+{
+    match e {
+        Ended::Refused(f) => fault_code(f),
+        Ended::Went(_, _, _) => 0,
+    }
+}
+
+// A test as a number.
+fn one_if(t: bool) -> u32
+    ensures { λ r. ⌜ r ≡ cond t 1 0 ⌝ }
+{
+    if t { 1 } else { 0 }
+}
+
+// Place, steps done, the state reached, and the goal as 1 or 0.
+pub fn run_numbers(e: Ended) -> [u32; 4]
+    ensures { λ r. ⌜ r ≡ runNumbers e ⌝ }
+{
+    match e {
+        Ended::Refused(f) => [fault_place(f), 0, 0, 0],
+        Ended::Went(done, state, goal) => [0, done, state as u32, one_if(goal)],
+    }
+}
+
+// A number's four bytes at the front, low byte first.
+fn put(out: &mut [u8], n: u32)
+    requires { ⌜ 4 ≤ length (now out) ⌝ }
+    ensures { λ _. ⌜ now (out .exit) ≡ bytes4 n ++ drop 4 (now (out .entry)) ⌝ }
+{
+    out[0] = (n % 256) as u8;
+    out[1] = (n / 256 % 256) as u8;
+    out[2] = (n / 65536 % 256) as u8;
+    out[3] = (n / 16777216 % 256) as u8;
+}
+
+// The numbers from the front, as many as fit whole; the rest is untouched.
+pub fn tell(out: &mut [u8], ns: &[u32])
+    ensures { λ _. ⌜ now (out .exit) ≡ told (now (ns .entry)) (now (out .entry)) ⌝ }
+{
+    if ns.len() == 0 {
+        return;
+    }
+    if out.len() < 4 {
+        return;
+    }
+    put(out, ns[0]);
+    tell(&mut out[4..], &ns[1..]);
+}
