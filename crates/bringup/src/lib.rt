@@ -1,0 +1,27 @@
+// The operations for C: numbers and byte slices in; the code returned, the numbers written into the answer slice.
+ghost use mathlib.Core.Path.{_≡_};
+ghost use Rattle.paper.specs.Answers.{checkLeft, runLeft};
+
+// Check: place and count into the answer.
+#[no_mangle]
+pub extern "C" fn bringup_check(sheet: &[u8], answer: &mut [u8]) -> u32
+    ensures code { λ r. ⌜ r ≡ checkLeft (now (sheet .entry)) (now (answer .entry)) .code ⌝ }
+    ensures written { λ r. ⌜ now (answer .exit) ≡ checkLeft (now (sheet .entry)) (now (answer .entry)) .answer ⌝ }
+{
+    let c = starts::check(sheet);
+    let numbers = answers::check_numbers(c);
+    answers::tell(answer, &numbers);
+    answers::check_code(c)
+}
+
+// Run: place, steps done, the state reached and the goal into the answer.
+#[no_mangle]
+pub extern "C" fn bringup_run(sheet: &[u8], state: u32, schedule: &[u8], answer: &mut [u8]) -> u32
+    ensures code { λ r. ⌜ r ≡ runLeft (now (sheet .entry)) state (now (schedule .entry)) (now (answer .entry)) .code ⌝ }
+    ensures written { λ r. ⌜ now (answer .exit) ≡ runLeft (now (sheet .entry)) state (now (schedule .entry)) (now (answer .entry)) .answer ⌝ }
+{
+    let e = run::run(sheet, state, schedule);
+    let numbers = answers::run_numbers(e);
+    answers::tell(answer, &numbers);
+    answers::run_code(e)
+}
