@@ -40,6 +40,12 @@ module _ {A : Type 0} where
   values-are n f d l e h =
       ext-getD d l (map f (upFrom 0 n)) (e ∙ sym (length-values f n 0)) (λ i lt. h i (omega arith) ∙ sym (value-at f d n i (omega arith)))
 
+  -- values of two functions that agree below n
+  pub map-below : (f g : ℕ → A) (n : ℕ) → ((k : ℕ) → k < n → f k ≡ g k) → map f (upFrom 0 n) ≡ map g (upFrom 0 n)
+  map-below f g n e =
+      ext-getD (f 0) (map f (upFrom 0 n)) (map g (upFrom 0 n)) (length-values f n 0 ∙ sym (length-values g n 0))
+      (λ i lt. let h : i < n = omega (arith, length-values f n 0) in value-at f (f 0) n i h ∙ e i h ∙ sym (value-at g (f 0) n i h))
+
   -- the rows of w bytes from o on
   map-offsets : (f : ℕ → A) (o w n i : ℕ) → map f (map (λ k. o + w * k) (upFrom i n)) ≡ map (λ k. f (o + w * k)) (upFrom i n)
   unfolding upFrom
