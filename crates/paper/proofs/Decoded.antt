@@ -11,7 +11,7 @@ use Rattle.paper.specs.declared.Trailer.{Trailer}
 use Rattle.paper.specs.declared.Fault.{Fault}
 use Rattle.paper.specs.declared.Fault.the-variants.{Unmarked, Unbounded, Disagrees}
 use Rattle.paper.specs.Lists.{all, filter, upFrom}
-use Rattle.paper.specs.Sheet.{Sheet, trailer, marked, within, agrees, goodNeed, goodRule, goodMasks, needAt, ruleAt, masksAt, offsets, needsAt, rulesAt, startsAt, goalsAt, badRows, sheetOf, Decoded, decoded, unless, noRow, decode, Fine, bodyLength, trailerLength, bodyAt}
+use Rattle.paper.specs.Sheet.{Sheet, trailer, marked, within, Bounded, agrees, goodNeed, goodRule, goodMasks, needAt, ruleAt, masksAt, offsets, needsAt, rulesAt, startsAt, goalsAt, badRows, sheetOf, Decoded, decoded, unless, noRow, decode, Fine, bodyLength, trailerLength, bodyAt}
 use Rattle.paper.proofs.Basic.{and-e, by}
 use Rattle.paper.proofs.Lists.{all-map}
 
@@ -43,17 +43,7 @@ rows-count : {A : Type 0} (f : ℕ → A) (o w n : ℕ) → length (map f (offse
 unfolding offsets
 rows-count f o w n = length-map (map (λ i. o + w * i) (upFrom 0 n)) f ∙ length-map (upFrom 0 n) (λ i. o + w * i) ∙ length-count n 0
 
--- the counts are within their bounds
-pub record Bounded (t : Trailer) : Type 0 where
-  pub facts-least : 1 ≤ t .facts
-  pub facts-most : t .facts ≤ 12
-  pub actions-least : 1 ≤ t .actions
-  pub actions-most : t .actions ≤ 12
-  pub rules-most : t .rules ≤ 24
-  pub starts-most : t .starts ≤ 16
-  pub goals-most : t .goals ≤ 16
-  pub horizon-most : t .horizon ≤ 8
-
+-- the test as facts
 pub within-bounded : (t : Trailer) → within t ≡ true → Bounded t
 unfolding within
 within-bounded t h =

@@ -69,6 +69,17 @@ unfoldable pub within : Trailer → Bool
 within t =
     (leb 1 (t .facts) && leb (t .facts) 12) && ((leb 1 (t .actions) && leb (t .actions) 12) && (leb (t .rules) 24 && (leb (t .starts) 16 && (leb (t .goals) 16 && leb (t .horizon) 8))))
 
+-- the same as facts, for what reads on
+pub record Bounded (t : Trailer) : Type 0 where
+  pub facts-least : 1 ≤ t .facts
+  pub facts-most : t .facts ≤ 12
+  pub actions-least : 1 ≤ t .actions
+  pub actions-most : t .actions ≤ 12
+  pub rules-most : t .rules ≤ 24
+  pub starts-most : t .starts ≤ 16
+  pub goals-most : t .goals ≤ 16
+  pub horizon-most : t .horizon ≤ 8
+
 -- 3: back or length disagrees
 unfoldable pub agrees : List ℕ → Trailer → Bool
 agrees b t = eqb (t .back) (bodyLength t) && eqb (length b) (t .back + trailerLength)

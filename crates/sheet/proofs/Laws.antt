@@ -13,10 +13,10 @@ use Rattle.paper.specs.declared.Trailer.{Trailer}
 use Rattle.paper.specs.declared.Fault.{Fault}
 use Rattle.paper.specs.declared.Fault.the-variants.{Unmarked, Unbounded, Disagrees}
 use Rattle.paper.specs.Lists.{filter, upFrom}
-use Rattle.paper.specs.Sheet.{Sheet, Decoded, refused, decoded, trailer, trailerLength, bodyAt, bodyLength, marked, within, agrees, needAt, ruleAt, offsets, needsAt, rulesAt, startsAt, goalsAt, badRows, sheetOf, noRow, decode}
+use Rattle.paper.specs.Sheet.{Sheet, Decoded, refused, decoded, trailer, trailerLength, bodyAt, bodyLength, marked, within, Bounded, agrees, needAt, ruleAt, offsets, needsAt, rulesAt, startsAt, goalsAt, badRows, sheetOf, noRow, decode}
 use Rattle.paper.specs.Step.{needOf, ruleOf}
 use Rattle.paper.proofs.Basic.{and-e, by}
-use Rattle.paper.proofs.Decoded.{Bounded, within-bounded, length-count, accepted}
+use Rattle.paper.proofs.Decoded.{within-bounded, length-count, accepted}
 use Rattle.bits.proofs.Filled.{value-at, rows-of}
 use Rattle.sheet.specs.declared.Part.the-variants.{Needs, Rules, Clauses}
 use Rattle.sheet.specs.declared.Found.{Found}

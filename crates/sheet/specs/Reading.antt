@@ -8,9 +8,8 @@ use lib.ListN.{length}
 use Rattle.paper.specs.declared.Trailer.{Trailer}
 use Rattle.paper.specs.declared.Fault.{Fault}
 use Rattle.paper.specs.Lists.{upFrom}
-use Rattle.paper.specs.Sheet.{Need, Rule, Sheet, Decoded, refused, decoded, trailer, bodyAt, goodNeed, goodRule, goodMasks, needAt, ruleAt, masksAt, decode}
+use Rattle.paper.specs.Sheet.{Need, Rule, Sheet, Decoded, refused, decoded, trailer, bodyAt, Bounded, goodNeed, goodRule, goodMasks, needAt, ruleAt, masksAt, decode}
 use Rattle.paper.specs.Step.{needOf, ruleOf}
-use Rattle.paper.proofs.Decoded.{Bounded}
 use Rattle.sheet.specs.declared.Part.{Part}
 use Rattle.sheet.specs.declared.Part.the-variants.{Needs, Rules, Clauses}
 use Rattle.sheet.specs.declared.Found.{Found}

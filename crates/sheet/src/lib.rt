@@ -8,7 +8,6 @@ ghost use lib.ListN.{length};
 ghost use Rattle.paper.specs.Lists.{filter};
 ghost use Rattle.paper.specs.Sheet as paper;
 ghost use Rattle.paper.specs.Step.{needOf, ruleOf};
-ghost use Rattle.paper.proofs.Decoded.{Bounded};
 ghost use Rattle.sheet.specs.Reading as spec;
 
 // The kinds of rows: of two masks that may not overlap, of an action and two such pairs, of two masks.
@@ -73,14 +72,14 @@ fn within(t: Trailer) -> bool
 }
 
 fn body_length(t: Trailer) -> usize
-    requires { ⌜ Bounded t ⌝ }
+    requires { ⌜ paper.Bounded t ⌝ }
     ensures { λ r. ⌜ (r ≡ paper.bodyLength t) × (r ≤ 416) ⌝ }
 {
     4 * t.actions + 10 * t.rules + 4 * t.starts + 4 * t.goals
 }
 
 fn agrees(b: &[u8], t: Trailer) -> bool
-    requires { ⌜ Bounded t ⌝ }
+    requires { ⌜ paper.Bounded t ⌝ }
     ensures { λ r. ⌜ r ≡ paper.agrees (now (b .entry)) t ⌝ }
 {
     let body = body_length(t);
