@@ -1,4 +1,4 @@
-// Answer slices of several lengths, each the front of 20 bytes that are 238: what is written, and that the rest is untouched.
+// Answer slices that are the front of 20 bytes ee: what is written, and that the rest is untouched.
 use crate::cases::check_into;
 use crate::cases::run_into;
 use crate::sheets::d;

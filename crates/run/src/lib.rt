@@ -149,7 +149,7 @@ fn entries_fit(schedule: &[u8], a: usize) -> bool
     true
 }
 
-// The state is one of f facts, and the schedule has 0..8 entries, each 0..A.
+// The state is one of F facts, and the schedule has 0..8 entries, each 0..A.
 fn good_run(t: Trailer, state: u32, schedule: &[u8]) -> bool
     requires { ⌜ t .facts ≤ 12 ⌝ }
     ensures { λ r. ⌜ ((b : List ℕ) → r ≡ operation.goodRun (sheetOf b t) state (now (schedule .entry))) ⌝ }

@@ -29,6 +29,7 @@ pub enum Reading {
     Accepted(Trailer),
 }
 
+// The 16-bit number at a place, as a count.
 fn count(b: &[u8], at: usize) -> usize
     requires { ⌜ at + 1 < length (now b) ⌝ }
     ensures { λ r. ⌜ r ≡ paper.word (now (b .entry)) at ⌝ }
@@ -36,6 +37,7 @@ fn count(b: &[u8], at: usize) -> usize
     bits::word(b, at) as usize
 }
 
+// 1 does not apply: 16 bytes or more, the last two of which are the mark.
 fn marked(b: &[u8]) -> bool
     ensures { λ r. ⌜ r ≡ paper.marked (now (b .entry)) ⌝ }
 {
@@ -46,6 +48,7 @@ fn marked(b: &[u8]) -> bool
     (b[n - 2] == 0x52) & (b[n - 1] == 0x53)
 }
 
+// The trailer is the file's last 16 bytes.
 fn read_trailer(b: &[u8]) -> Trailer
     requires { ⌜ 16 ≤ length (now b) ⌝ }
     ensures { λ r. ⌜ r ≡ paper.trailer (now (b .entry)) ⌝ }
@@ -62,6 +65,7 @@ fn read_trailer(b: &[u8]) -> Trailer
     }
 }
 
+// 2 does not apply: every count is within its bounds.
 fn within(t: Trailer) -> bool
     ensures { λ r. ⌜ r ≡ paper.within t ⌝ }
 {
@@ -71,6 +75,7 @@ fn within(t: Trailer) -> bool
     facts & (actions & ((t.rules <= 24) & lists))
 }
 
+// The bytes of the body, by its counts.
 fn body_length(t: Trailer) -> usize
     requires { ⌜ paper.Bounded t ⌝ }
     ensures { λ r. ⌜ (r ≡ paper.bodyLength t) × (r ≤ 416) ⌝ }
@@ -78,6 +83,7 @@ fn body_length(t: Trailer) -> usize
     4 * t.actions + 10 * t.rules + 4 * t.starts + 4 * t.goals
 }
 
+// 3 does not apply: back is the body's length, and the file has no other byte.
 fn agrees(b: &[u8], t: Trailer) -> bool
     requires { ⌜ paper.Bounded t ⌝ }
     ensures { λ r. ⌜ r ≡ paper.agrees (now (b .entry)) t ⌝ }
@@ -124,6 +130,7 @@ pub fn fits(f: usize, m: u32) -> bool
     m < bits::weight(f)
 }
 
+// Two masks of f facts that do not overlap.
 fn good_pair(f: usize, one: u16, nil: u16) -> bool
     requires { ⌜ f ≤ 12 ⌝ }
     ensures { λ r. ⌜ r ≡ paper.goodPair f one nil ⌝ }
@@ -155,6 +162,7 @@ fn good_masks(b: &[u8], f: usize, at: usize) -> bool
     fits(f, bits::word(b, at) as u32) & fits(f, bits::word(b, at + 2) as u32)
 }
 
+// The bytes of a row.
 fn width(part: Part) -> usize
     ensures { λ r. ⌜ r ≡ spec.width part ⌝ }
 {
@@ -165,6 +173,7 @@ fn width(part: Part) -> usize
     }
 }
 
+// 4 applies to the row at an offset.
 fn bad_row(b: &[u8], t: Trailer, part: Part, at: usize) -> bool
     requires { ⌜ (t .facts ≤ 12) × (at + spec.width part ≤ length (now b)) ⌝ }
     ensures { λ r. ⌜ r ≡ spec.badRow (now (b .entry)) t part at ⌝ }
@@ -192,6 +201,7 @@ fn first_bad(b: &[u8], t: Trailer, part: Part, from: usize, n: usize) -> Found
     Found::Nothing
 }
 
+// What was found first, else what was found second.
 fn or_else(f: Found, g: Found) -> Found
     ensures { λ r. ⌜ r ≡ spec.orElse f g ⌝ }
 {
