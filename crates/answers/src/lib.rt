@@ -1,14 +1,11 @@
-// What comes back: the code and the numbers of an answer, and the answer slice that takes them.
+// What comes back: the code and the numbers of an answer.
 use paper::Checked;
 use paper::Ended;
 use paper::Fault;
+use paper::Judged;
 ghost use mathlib.Core.Path.{_≡_};
 ghost use mathlib.Core.Bool.{cond};
-ghost use mathlib.Core.List.{_++_};
-ghost use Prim.Native.Nat.{_≤_};
-ghost use lib.ListN.{length, drop};
-ghost use Rattle.paper.specs.Operations.{bytes4};
-ghost use Rattle.paper.specs.Answers.{faultCode, faultPlace, checkCode, checkNumbers, runCode, runNumbers, told};
+ghost use Rattle.paper.specs.Answers.{faultCode, faultPlace, checkCode, checkNumbers, runCode, runNumbers, judgeCode, judgeNumbers};
 
 // A refusal's number.
 fn fault_code(f: Fault) -> u32
@@ -87,27 +84,21 @@ pub fn run_numbers(e: Ended) -> [u32; 4]
     }
 }
 
-// A number's four bytes at the front, low byte first.
-fn put(out: &mut [u8], n: u32)
-    requires { ⌜ 4 ≤ length (now out) ⌝ }
-    ensures { λ _. ⌜ now (out .exit) ≡ bytes4 n ++ drop 4 (now (out .entry)) ⌝ }
+pub fn judge_code(j: Judged) -> u32
+    ensures { λ r. ⌜ r ≡ judgeCode j ⌝ }
 {
-    out[0] = (n % 256) as u8;
-    out[1] = (n / 256 % 256) as u8;
-    out[2] = (n / 65536 % 256) as u8;
-    out[3] = (n / 16777216 % 256) as u8;
+    match j {
+        Judged::Refused(f) => fault_code(f),
+        Judged::Value(_) => 0,
+    }
 }
 
-// The numbers from the front, as many as fit whole; the rest is untouched.
-pub fn tell(out: &mut [u8], ns: &[u32])
-    ensures { λ _. ⌜ now (out .exit) ≡ told (now (ns .entry)) (now (out .entry)) ⌝ }
+// Place, and the value as 1 or 0.
+pub fn judge_numbers(j: Judged) -> [u32; 2]
+    ensures { λ r. ⌜ r ≡ judgeNumbers j ⌝ }
 {
-    if ns.len() == 0 {
-        return;
+    match j {
+        Judged::Refused(f) => [fault_place(f), 0],
+        Judged::Value(v) => [0, one_if(v)],
     }
-    if out.len() < 4 {
-        return;
-    }
-    put(out, ns[0]);
-    tell(&mut out[4..], &ns[1..]);
 }

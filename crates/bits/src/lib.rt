@@ -1,9 +1,12 @@
 // Bits of a mask and numbers in bytes: what the machine's operations say of document 01's bits stands in proofs/.
 ghost use mathlib.Core.Path.{_≡_};
-ghost use Prim.Native.Nat.{_+_, _^_, _<_};
-ghost use lib.ListN.{length};
+ghost use mathlib.Core.List.{_++_};
+ghost use Prim.Native.Nat.{_+_, _^_, _≤_, _<_};
+ghost use lib.ListN.{length, drop};
 ghost use Rattle.paper.specs.Counting as counting;
 ghost use Rattle.paper.specs.Sheet as sheet;
+ghost use Rattle.paper.specs.Operations as operation;
+ghost use Rattle.paper.specs.Answers.{told};
 
 // Fact k of a mask.
 pub fn bit(m: u16, k: usize) -> bool
@@ -33,4 +36,43 @@ pub fn word(b: &[u8], at: usize) -> u16
     ensures { λ r. ⌜ r ≡ sheet.word (now (b .entry)) at ⌝ }
 {
     wide(b[at]) + 256 * wide(b[at + 1])
+}
+
+fn wider(x: u8) -> u32
+    ensures { λ r. ⌜ (r ≡ x) × (r < 256) ⌝ }
+{
+    x as u32
+}
+
+// The 32-bit number at a place, low byte first.
+pub fn long(b: &[u8], at: usize) -> u32
+    requires { ⌜ at + 3 < length (now b) ⌝ }
+    ensures { λ r. ⌜ r ≡ operation.long (now (b .entry)) at ⌝ }
+{
+    wider(b[at]) + 256 * (wider(b[at + 1]) + 256 * (wider(b[at + 2]) + 256 * wider(b[at + 3])))
+}
+
+// A number's four bytes at the front, low byte first.
+fn put(out: &mut [u8], n: u32)
+    requires { ⌜ 4 ≤ length (now out) ⌝ }
+    ensures { λ _. ⌜ now (out .exit) ≡ operation.bytes4 n ++ drop 4 (now (out .entry)) ⌝ }
+{
+    out[0] = (n % 256) as u8;
+    out[1] = (n / 256 % 256) as u8;
+    out[2] = (n / 65536 % 256) as u8;
+    out[3] = (n / 16777216 % 256) as u8;
+}
+
+// The numbers from the front, as many as fit whole; the rest is untouched.
+pub fn tell(out: &mut [u8], ns: &[u32])
+    ensures { λ _. ⌜ now (out .exit) ≡ told (now (ns .entry)) (now (out .entry)) ⌝ }
+{
+    if ns.len() == 0 {
+        return;
+    }
+    if out.len() < 4 {
+        return;
+    }
+    put(out, ns[0]);
+    tell(&mut out[4..], &ns[1..]);
 }

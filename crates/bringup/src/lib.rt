@@ -10,7 +10,7 @@ pub extern "C" fn bringup_check(sheet: &[u8], answer: &mut [u8]) -> u32
 {
     let c = starts::check(sheet);
     let numbers = answers::check_numbers(c);
-    answers::tell(answer, &numbers);
+    bits::tell(answer, &numbers);
     answers::check_code(c)
 }
 
@@ -22,6 +22,6 @@ pub extern "C" fn bringup_run(sheet: &[u8], state: u32, schedule: &[u8], answer:
 {
     let e = run::run(sheet, state, schedule);
     let numbers = answers::run_numbers(e);
-    answers::tell(answer, &numbers);
+    bits::tell(answer, &numbers);
     answers::run_code(e)
 }

@@ -3,8 +3,8 @@ use lib.ListN.{length-set}
 use lib.Seq.{sets-eq}
 use Rattle.paper.specs.Operations.{bytes4}
 use borrow.Author.Needs.{needs}
-use Rattle.answers.proofs.put.Statement.{statement}
-use Rattle.answers.proofs.put.Tie as tie
+use Rattle.bits.proofs.put.Statement.{statement}
+use Rattle.bits.proofs.put.Tie as tie
 
 cast-out : tie.Need-cast-out
 cast-out c = search needs

@@ -6,13 +6,13 @@ use lib.ListN.{length}
 use borrow.Author.Needs.{needs}
 use borrow.Fn.Kinds.{In}
 use borrow.Fn.PlainCycle.{Measures, is, falls, and}
-use Rattle.answers.proofs.Told.{told-none, told-short, told-more}
-use Rattle.answers.proofs.put.Reads as put
-use Rattle.answers.proofs.tell.Reads as tell
-use Rattle.answers.proofs.tell.Kinds.{ps}
-use Rattle.answers.proofs.+tell.Lts-tell as lts
-use Rattle.answers.proofs.+tell.{statement}
-use Rattle.answers.proofs.+tell.Tie.{close}
+use Rattle.bits.proofs.Told.{told-none, told-short, told-more}
+use Rattle.bits.proofs.put.Reads as put
+use Rattle.bits.proofs.tell.Reads as tell
+use Rattle.bits.proofs.tell.Kinds.{ps}
+use Rattle.bits.proofs.+tell.Lts-tell as lts
+use Rattle.bits.proofs.+tell.{statement}
+use Rattle.bits.proofs.+tell.Tie.{close}
 
 abbrev μ : Measures 2 ps ℕ
 μ κs a = length (a .1 .0 .now)
