@@ -27,7 +27,8 @@ use Rattle.bits.proofs.Machine.{or-bit, apart}
 use Rattle.bits.proofs.Below.{some-more, some-same, none-i}
 use Rattle.bits.proofs.Filled.{value-at}
 use Rattle.sheet.specs.Reading.{pair, fives, pairsOf, fivesOf}
-use Rattle.run.specs.Writes.{Writes, fires}
+use Rattle.sheet.specs.Writes.{Writes}
+use Rattle.run.specs.Firing.{fires}
 
 -- one rule more
 pub one-set-more : (m x j k : ℕ) (f : ℕ → Bool) → bit m k ≡ someBelow j f → bit x k ≡ f j → bit (bitOr m x) k ≡ someBelow (j + 1) f

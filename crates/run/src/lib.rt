@@ -17,7 +17,8 @@ ghost use Rattle.paper.specs.Sheet.{Sheet, Fine, sheetOf};
 ghost use Rattle.paper.specs.Operations as operation;
 ghost use Rattle.sheet.specs.Reading.{Whole};
 ghost use Rattle.paper.specs.Step as paper;
-ghost use Rattle.run.specs.Writes as spec;
+ghost use Rattle.sheet.specs.Writes.{Writes};
+ghost use Rattle.run.specs.Firing as spec;
 
 // Every fact in one is 1 and every fact in nil is 0, however many facts the masks are of.
 fn meets(one: u16, nil: u16, s: u16) -> bool
@@ -67,7 +68,7 @@ fn apply(s: u16, ones: u16, zeros: u16) -> u16
 // Action a, numbered from 1, in state s: needs before clash.
 fn act(needs: [[u16; 2]; 12], rules: [[u16; 5]; 24], n: usize, a: usize, s: u16) -> Stepped
     requires { ⌜ (n ≤ 24) × (1 ≤ a) × (a ≤ 12) ⌝ }
-    ensures { λ r. ⌜ ((p : Sheet) → spec.Writes p needs rules n → a ≤ p .A → s < 2 ^ p .F → r ≡ paper.act p (a - 1) s) ⌝ }
+    ensures { λ r. ⌜ ((p : Sheet) → Writes p needs rules n → a ≤ p .A → s < 2 ^ p .F → r ≡ paper.act p (a - 1) s) ⌝ }
 {
     let i = a - 1;
     let need = needs[i];
@@ -85,7 +86,7 @@ fn act(needs: [[u16; 2]; 12], rules: [[u16; 5]; 24], n: usize, a: usize, s: u16)
 // An entry of a schedule in state s: 0 is idle.
 pub fn step(needs: [[u16; 2]; 12], rules: [[u16; 5]; 24], n: usize, e: usize, s: u16) -> Stepped
     requires { ⌜ (n ≤ 24) × (e ≤ 12) ⌝ }
-    ensures { λ r. ⌜ ((p : Sheet) → spec.Writes p needs rules n → e ≤ p .A → s < 2 ^ p .F → r ≡ paper.step p e s) ⌝ }
+    ensures { λ r. ⌜ ((p : Sheet) → Writes p needs rules n → e ≤ p .A → s < 2 ^ p .F → r ≡ paper.step p e s) ⌝ }
 {
     if e == 0 {
         return Stepped::Ran(s);
@@ -102,7 +103,7 @@ pub fn walk(
     s: u16,
 ) -> paper::Run
     requires { ⌜ (n ≤ 24) × (length (now schedule) ≤ 8) × ((i : ℕ) → i < length (now schedule) → getD (now schedule) i 0 ≤ 12) ⌝ }
-    ensures { λ r. ⌜ (r .done ≤ 8) × ((p : Sheet) → spec.Writes p needs rules n → paper.entriesFit p (now (schedule .entry)) ≡ true → s < 2 ^ p .F → r ≡ paper.run p s (now (schedule .entry))) ⌝ }
+    ensures { λ r. ⌜ (r .done ≤ 8) × ((p : Sheet) → Writes p needs rules n → paper.entriesFit p (now (schedule .entry)) ≡ true → s < 2 ^ p .F → r ≡ paper.run p s (now (schedule .entry))) ⌝ }
 {
     let mut state = s;
     let mut at = Moment::first();

@@ -5,7 +5,7 @@ use borrow.Author.Tests.{not-false}
 use Rattle.paper.specs.Sheet.{sheetOf}
 use Rattle.paper.specs.Operations.{goodRun}
 use Rattle.paper.proofs.Basic.{not-t}
-use Rattle.run.specs.Writes.{Writes}
+use Rattle.sheet.specs.Writes.{Writes}
 use Rattle.run.proofs.Operation.{good, run-went}
 use borrow.Author.Needs.{needs}
 use Rattle.run.proofs.run_sheet.Statement.{statement}

@@ -6,7 +6,7 @@ use native.Mathlib.Omega.{arith}
 use lib.ListN.{getD}
 use Rattle.paper.specs.Counting.{bit, someBelow}
 use Rattle.paper.proofs.Bits.{bit-nil}
-use Rattle.run.specs.Writes as spec
+use Rattle.run.specs.Firing as spec
 use Rattle.run.proofs.Laws.{one-set-more}
 use borrow.Author.Needs.{needs}
 use Rattle.run.proofs.set_mask.Statement.{statement}

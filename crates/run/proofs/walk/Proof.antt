@@ -6,7 +6,7 @@ use native.Mathlib.Omega.{arith}
 use lib.ListN.{length, getD, drop}
 use Rattle.paper.specs.Sheet.{Sheet}
 use Rattle.paper.specs.Step.{entriesFit, runFrom, run}
-use Rattle.run.specs.Writes.{Writes}
+use Rattle.sheet.specs.Writes.{Writes}
 use Rattle.run.proofs.Laws.{step-fits, entry-fits, run-on, run-unmet, run-clashed, run-end}
 use borrow.Author.Needs.{needs}
 use Rattle.run.proofs.walk.Statement.{statement}
