@@ -25,9 +25,9 @@ use Rattle.paper.proofs.Any.{any-filter}
 use Rattle.paper.proofs.Bits.{bit-high, bit-ext, bit-maskBelow, maskBelow-lt}
 use Rattle.bits.proofs.Machine.{or-bit, apart}
 use Rattle.bits.proofs.Below.{some-more, some-same, none-i}
-use Rattle.bits.proofs.Filled.{value-at}
-use Rattle.sheet.specs.Reading.{pair, fives, pairsOf, fivesOf}
+use Rattle.sheet.specs.Reading.{fives}
 use Rattle.sheet.specs.Writes.{Writes}
+use Rattle.sheet.proofs.Writes.{need-at, rule-at}
 use Rattle.run.specs.Firing.{fires}
 
 -- one rule more
@@ -73,23 +73,12 @@ module _ (p : Sheet) (fine : Fine p) where
       pair-fits (p .F) (needOf p i .need1) (needOf p i .need0) (all-getD (goodNeed (p .F)) _ (p .needs) (fine .needs-fine) i l)
 
 module _ (p : Sheet) (needs rules : List (List ℕ)) (n : ℕ) (w : Writes p needs rules n) where
-  -- what the arrays hold
-  need-at : (i : ℕ) → i < p .A → getD needs i [] ≡ pair (needOf p i)
-  unfolding pairsOf
-  need-at i lt =
-      ap (λ (l : List (List ℕ)). getD l i []) (w .needs-are) ∙ value-at (λ k. pair (needOf p k)) [] 12 i (omega (arith, w .fine .actions-most))
-
-  rule-at : (r : ℕ) → r < n → getD rules r [] ≡ fives (ruleOf p r)
-  unfolding fivesOf
-  rule-at r lt =
-      ap (λ (l : List (List ℕ)). getD l r []) (w .rules-are) ∙ value-at (λ k. fives (ruleOf p k)) [] 24 r (omega (arith, w .fine .rules-most, w .rules-count))
-
   in-sheet : (r : ℕ) → r < n → Fits (p .F) (ruleOf p r)
   in-sheet r lt = rule-in p (w .fine) r (omega (arith, w .rules-count))
 
   -- what set_mask asks of the rules
   pub conds-fit : (r : ℕ) → r < n → (getD (getD rules r []) 1 0 < 2 ^ p .F) × (getD (getD rules r []) 2 0 < 2 ^ p .F)
-  conds-fit r lt = rw (rule-at r lt) (in-sheet r lt .conds)
+  conds-fit r lt = rw (rule-at p needs rules n w r lt) (in-sheet r lt .conds)
 
   module _ (a s : ℕ) where
     -- number i of the firing rules
@@ -99,7 +88,7 @@ module _ (p : Sheet) (needs rules : List (List ℕ)) (n : ℕ) (w : Writes p nee
     sets-is i g is k =
         let go : ℕ → Bool = λ r. fires (p .F) (fives (ruleOf p r)) a s in
         let set : ℕ → Bool = λ r. bit (g (ruleOf p r)) k in
-        some-same n (λ r. fires (p .F) (getD rules r []) a s && bit (getD (getD rules r []) i 0) k) (λ r. go r && set r) (λ r lt. rw (rule-at r lt, is (ruleOf p r)))
+        some-same n (λ r. fires (p .F) (getD rules r []) a s && bit (getD (getD rules r []) i 0) k) (λ r. go r && set r) (λ r lt. rw (rule-at p needs rules n w r lt, is (ruleOf p r)))
         ∙ ap (λ (m : ℕ). someBelow m (λ r. go r && set r)) (w .rules-count)
         ∙ sym (any-map (λ r. bit (g r) k) (ruleOf p) (filter go (upFrom 0 (p .R))) ∙ any-filter set go (upFrom 0 (p .R)) ∙ any-below (p .R) (λ r. go r && set r) (λ r. go r && set r) (λ r lt. refl))
 
@@ -115,7 +104,7 @@ module _ (p : Sheet) (needs rules : List (List ℕ)) (n : ℕ) (w : Writes p nee
 
       -- no firing rule sets a fact at F or above
       ones-high : (k : ℕ) → p .F ≤ k → bit ones k ≡ false
-      ones-high k le = h1 k ∙ none-i n _ (λ r lt. ap (λ (b : Bool). fires (p .F) (getD rules r []) a s && b) (rw (rule-at r lt) (bit-high (p .F) _ k (in-sheet r lt .sets .0) le)) ∙ and-zero (fires (p .F) (getD rules r []) a s))
+      ones-high k le = h1 k ∙ none-i n _ (λ r lt. ap (λ (b : Bool). fires (p .F) (getD rules r []) a s && b) (rw (rule-at p needs rules n w r lt) (bit-high (p .F) _ k (in-sheet r lt .sets .0) le)) ∙ and-zero (fires (p .F) (getD rules r []) a s))
 
       ones-fit : ones < 2 ^ 16 → ones < 2 ^ p .F
       ones-fit room = mask-fits (p .F) 16 ones (omega (arith, w .fine .facts-most)) room (λ k le lt. ones-high k le)
@@ -152,7 +141,7 @@ module _ (p : Sheet) (needs rules : List (List ℕ)) (n : ℕ) (w : Writes p nee
   pub need-read : (i s : ℕ) (r : Bool) → i < p .A
       → ((F : ℕ) → getD (getD needs i []) 0 0 < 2 ^ F → getD (getD needs i []) 1 0 < 2 ^ F → r ≡ meets F s (getD (getD needs i []) 0 0) (getD (getD needs i []) 1 0))
       → r ≡ meets (p .F) s (needOf p i .need1) (needOf p i .need0)
-  need-read i s r lt = rw (need-at i lt) (λ h. let f = need-in p (w .fine) i lt in h (p .F) (f .0) (f .1))
+  need-read i s r lt = rw (need-at p needs rules n w i lt) (λ h. let f = need-in p (w .fine) i lt in h (p .F) (f .0) (f .1))
 
 -- an action whose need is not met
 pub unmet : (p : Sheet) (i s : ℕ) → meets (p .F) s (needOf p i .need1) (needOf p i .need0) ≡ false → NeedUnmet ≡ act p i s
