@@ -1,6 +1,6 @@
 // The operations for C: numbers and byte slices in; the code returned, the numbers written into the answer slice.
 ghost use mathlib.Core.Path.{_≡_};
-ghost use Rattle.paper.specs.Answers.{checkLeft, runLeft};
+ghost use Rattle.paper.specs.Answers.{checkLeft, runLeft, judgeLeft};
 
 // Check: place and count into the answer.
 #[no_mangle]
@@ -24,4 +24,25 @@ pub extern "C" fn bringup_run(sheet: &[u8], state: u32, schedule: &[u8], answer:
     let numbers = answers::run_numbers(e);
     bits::tell(answer, &numbers);
     answers::run_code(e)
+}
+
+// Judge: place and the root's value into the answer.
+#[no_mangle]
+pub extern "C" fn bringup_judge(
+    sheet: &[u8],
+    horizon: u32,
+    rows: &[u8],
+    count: u32,
+    root: u32,
+    state: u32,
+    masks: &[u8],
+    answer: &mut [u8],
+) -> u32
+    ensures code { λ r. ⌜ r ≡ judgeLeft (now (sheet .entry)) horizon (now (rows .entry)) count root state (now (masks .entry)) (now (answer .entry)) .code ⌝ }
+    ensures written { λ r. ⌜ now (answer .exit) ≡ judgeLeft (now (sheet .entry)) horizon (now (rows .entry)) count root state (now (masks .entry)) (now (answer .entry)) .answer ⌝ }
+{
+    let j = judge::judge(sheet, horizon, rows, count, root, state, masks);
+    let numbers = answers::judge_numbers(j);
+    bits::tell(answer, &numbers);
+    answers::judge_code(j)
 }

@@ -1,0 +1,4 @@
+pub mod Laws
+pub mod Values
+pub mod Operation
+pub mod Theorem
