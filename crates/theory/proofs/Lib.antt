@@ -1,3 +1,4 @@
 pub mod Laws
 pub mod Reading
 pub mod Parts
+pub mod Theorem
