@@ -4,7 +4,6 @@ use paper::Ended;
 use paper::Fault;
 use paper::Judged;
 ghost use mathlib.Core.Path.{_≡_};
-ghost use mathlib.Core.Bool.{cond};
 ghost use Rattle.paper.specs.Answers.{faultCode, faultPlace, checkCode, checkNumbers, runCode, runNumbers, judgeCode, judgeNumbers};
 
 // A refusal's number.
@@ -67,20 +66,13 @@ pub fn run_code(e: Ended) -> u32
     }
 }
 
-// A test as a number.
-fn one_if(t: bool) -> u32
-    ensures { λ r. ⌜ r ≡ cond t 1 0 ⌝ }
-{
-    if t { 1 } else { 0 }
-}
-
 // Place, steps done, the state reached, and the goal as 1 or 0.
 pub fn run_numbers(e: Ended) -> [u32; 4]
     ensures { λ r. ⌜ r ≡ runNumbers e ⌝ }
 {
     match e {
         Ended::Refused(f) => [fault_place(f), 0, 0, 0],
-        Ended::Went(done, state, goal) => [0, done, state as u32, one_if(goal)],
+        Ended::Went(done, state, goal) => [0, done, state as u32, bits::one_if(goal)],
     }
 }
 
@@ -99,6 +91,6 @@ pub fn judge_numbers(j: Judged) -> [u32; 2]
 {
     match j {
         Judged::Refused(f) => [fault_place(f), 0],
-        Judged::Value(v) => [0, one_if(v)],
+        Judged::Value(v) => [0, bits::one_if(v)],
     }
 }

@@ -1,5 +1,6 @@
 // Bits of a mask and numbers in bytes: what the machine's operations say of document 01's bits stands in proofs/.
 ghost use mathlib.Core.Path.{_≡_};
+ghost use mathlib.Core.Bool.{cond};
 ghost use mathlib.Core.List.{_++_};
 ghost use Prim.Native.Nat.{_+_, _^_, _≤_, _<_};
 ghost use lib.ListN.{length, drop};
@@ -22,6 +23,13 @@ pub fn weight(k: usize) -> u32
     ensures { λ r. ⌜ r ≡ 2 ^ k ⌝ }
 {
     1u32 << k
+}
+
+// A test as a number.
+pub fn one_if(t: bool) -> u32
+    ensures { λ r. ⌜ (r ≡ cond t 1 0) × (r ≡ counting.worth t 1) × (r ≤ 1) ⌝ }
+{
+    if t { 1 } else { 0 }
 }
 
 fn wide(x: u8) -> u16

@@ -7,7 +7,7 @@ use native.Mathlib.Omega.{arith}
 use Rattle.paper.specs.Lists.{upFrom, elem}
 use Rattle.paper.specs.Sheet.{Sheet, Fine}
 use Rattle.paper.specs.Clauses.{everyPair, theory}
-use Rattle.paper.specs.Circuit.{vars, lits}
+use Rattle.paper.specs.Circuit.{vars}
 use Rattle.paper.proofs.Size.{theory-size, variables-most}
 use Rattle.paper.proofs.Tidy.{theory-vars}
 use Rattle.theory.specs.declared.Filled.{Filled}

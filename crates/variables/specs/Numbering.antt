@@ -1,7 +1,7 @@
 -- The numbering of variables by a trailer's counts, and what a variable stands for.
 -- Assumes nothing.
 use mathlib.Core.Path.{_≡_}
-use mathlib.Core.Bool.{Bool, cond}
+use mathlib.Core.Bool.{cond}
 use Prim.Native.Nat.{ℕ, _+_, _-_, _/_, _%_}
 use lib.Dec.{ltb}
 use Rattle.paper.specs.declared.Trailer.{Trailer}
