@@ -2,3 +2,4 @@ pub mod Below
 pub mod Machine
 pub mod Filled
 pub mod Told
+pub mod Upward

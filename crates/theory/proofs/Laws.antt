@@ -2,7 +2,7 @@
 use mathlib.Core.Path.{_≡_, refl, sym, ap, _∙_, subst}
 use mathlib.Core.Bool.{Bool, true, false, not, cond}
 use mathlib.Core.List.{List, [], _∷_, _++_, map, append-nil, append-assoc, map-append}
-use Prim.Native.Nat.{ℕ, zero, suc, _+_, _-_, _*_, _≤_, _<_}
+use Prim.Native.Nat.{ℕ, _+_, _-_, _*_, _≤_, _<_}
 use native.Mathlib.Numerals.{add-one}
 use native.Mathlib.Omega.{arith}
 use lib.ListN.{length, take, set, length-append, length-set}
@@ -14,33 +14,17 @@ use Rattle.paper.specs.Counting.{bit}
 use Rattle.paper.specs.Sheet.{Sheet}
 use Rattle.paper.specs.Clauses.{Clause, Clauses, yes·, no·, neg, fact, facts, literals}
 use Rattle.paper.specs.Circuit.{lits}
+use Rattle.bits.proofs.Upward.{each-last, each-more}
 use Rattle.theory.specs.declared.Filled.{Filled}
 use Rattle.theory.specs.Flat.{codeOf, codes, endsFrom}
 use Rattle.theory.specs.Making.{Holds, Pushes, Adds, lit, factAs, literalsAs, besides}
 
 -- ---- lists of lists
 module _ {A B : Type 0} where
-  pub each-append : (xs ys : List A) (f : A → List B) → each (xs ++ ys) f ≡ each xs f ++ each ys f
-  unfolding each
-  each-append [] ys f = refl
-  each-append (x ∷ xs) ys f = ap (λ l. f x ++ l) (each-append xs ys f) ∙ sym (append-assoc (f x) (each xs f) (each ys f))
-
   pub each-same : (xs : List A) (f g : A → List B) → ((x : A) → f x ≡ g x) → each xs f ≡ each xs g
   unfolding each
   each-same [] f g h = refl
   each-same (x ∷ xs) f g h = λ i. h x i ++ each-same xs f g h i
-
-pub up-snoc : (i n : ℕ) → upFrom i (suc n) ≡ upFrom i n ++ ((i + n) ∷ [])
-unfolding upFrom
-up-snoc i zero = ap (λ (k : ℕ). k ∷ []) (omega arith)
-up-snoc i (suc n) = ap (λ (l : List ℕ). i ∷ l) (up-snoc (i + 1) n ∙ ap (λ (k : ℕ). upFrom (i + 1) n ++ (k ∷ [])) (omega arith))
-
--- one number more
-pub each-more : {B : Type 0} (n : ℕ) (f : ℕ → List B) → each (upFrom 0 (n + 1)) f ≡ each (upFrom 0 n) f ++ f n
-unfolding each
-each-more n f =
-    ap (λ (k : ℕ). each (upFrom 0 k) f) (add-one n) ∙ ap (λ l. each l f) (up-snoc 0 n) ∙ each-append (upFrom 0 n) ((0 + n) ∷ []) f
-    ∙ ap (λ l. each (upFrom 0 n) f ++ l) (append-nil (f (0 + n)) ∙ ap f (omega arith))
 
 -- ---- the arrays
 pub lits-append : (S D : Clauses) → lits (S ++ D) ≡ lits S + lits D
@@ -54,9 +38,8 @@ ends-append i (d ∷ S) c =
     ap (λ (l : List ℕ). (i + length d) ∷ l) (ends-append (i + length d) S c ∙ ap (λ (k : ℕ). endsFrom (i + length d) S ++ (k ∷ [])) (omega arith))
 
 codes-append : (S : Clauses) (c : Clause) → codes (S ++ (c ∷ [])) ++ [] ≡ codes S ++ map codeOf c
-unfolding codes each
-codes-append S c =
-    append-nil (codes (S ++ (c ∷ []))) ∙ each-append S (c ∷ []) (λ c. map codeOf c) ∙ ap (λ l. codes S ++ l) (append-nil (map codeOf c))
+unfolding codes
+codes-append S c = append-nil (codes (S ++ (c ∷ []))) ∙ each-last S c (λ c. map codeOf c)
 
 -- a literal is stored
 pub pushed : (L : List ℕ) (m : Filled) (l : Lit) (v : ℕ) → v ≡ codeOf l → m .literals < length L
@@ -157,10 +140,10 @@ adds-clause {c} {M = M} {E} f g = record { adds = λ S h. g M S c (f .pushes E S
 
 -- a loop's next turn
 pub pushes-more : (n : ℕ) (f : ℕ → Clause) {L M N : List ℕ} {m k o : Filled} → Pushes (each (upFrom 0 n) f) L M m k → Pushes (f n) M N k o → Pushes (each (upFrom 0 (n + 1)) f) L N m o
-pushes-more n f {L} {N = N} {m} {o = o} a b = subst (λ c. Pushes c L N m o) (sym (each-more n f)) (pushes-then a b)
+pushes-more n f {L} {N = N} {m} {o = o} a b = subst (λ c. Pushes c L N m o) (sym (each-more f n)) (pushes-then a b)
 
 pub adds-more : (n : ℕ) (f : ℕ → Clauses) {L M N E G H : List ℕ} {m k o : Filled} → Adds (each (upFrom 0 n) f) L M E G m k → Adds (f n) M N G H k o → Adds (each (upFrom 0 (n + 1)) f) L N E H m o
-adds-more n f {L} {N = N} {E} {H = H} {m} {o = o} a b = subst (λ D. Adds D L N E H m o) (sym (each-more n f)) (adds-then a b)
+adds-more n f {L} {N = N} {E} {H = H} {m} {o = o} a b = subst (λ D. Adds D L N E H m o) (sym (each-more f n)) (adds-then a b)
 
 -- ---- literals as numbers
 pub code-yes : (x : ℕ) (s : Bool) → s ≡ true → 2 * x ≡ codeOf (lit x s)

@@ -1,9 +1,8 @@
 -- What each function of the clause maker adds is what the definitions name, by the arrays of a sheet. Assumes nothing.
 use mathlib.Core.Path.{_≡_, refl, sym, ap, _∙_, subst}
 use mathlib.Core.Bool.{Bool, true, false, not, _&&_, cond}
-use mathlib.Core.List.{List, [], _∷_, _++_, map}
+use mathlib.Core.List.{List, [], _∷_, _++_, map, map-append}
 use Prim.Native.Nat.{ℕ, _+_, _-_, _*_, _^_, _≤_, _<_}
-use native.Mathlib.Numerals.{add-one}
 use native.Mathlib.Omega.{arith}
 use lib.Dec.{eqb, ltb, leb}
 use lib.Bits.{bitAnd}
@@ -22,14 +21,16 @@ use Rattle.paper.proofs.Basic.{and-e, not-t, not-true}
 use Rattle.paper.proofs.Lists.{filter-below, all-getD}
 use Rattle.paper.proofs.Size.{theory-size}
 use Rattle.bits.proofs.Machine.{apart}
+use Rattle.bits.proofs.Upward.{map-more}
 use Rattle.variables.specs.Numbering.{Counts}
+use Rattle.variables.proofs.Laws.{sheet-counts}
 use Rattle.sheet.specs.Reading.{fives, pairsOf, fivesOf}
 use Rattle.sheet.specs.Writes.{Writes}
 use Rattle.sheet.proofs.Writes.{need-at, rule-at}
 use Rattle.theory.specs.declared.Filled.{Filled}
 use Rattle.theory.specs.Flat.{codes, endsFrom, Stored}
 use Rattle.theory.specs.Making.{Holds, Pushes, Adds, lit, literalsAs, besides, zOf, exclusionsOf, setters, frameOf, stepsOf, Actions}
-use Rattle.theory.proofs.Laws.{Ends, pushes-then, adds-none, adds-then, adds-clause, map-filter, as-true, adds-wanted, up-snoc}
+use Rattle.theory.proofs.Laws.{Ends, pushes-then, adds-none, adds-then, adds-clause, map-filter, as-true, adds-wanted}
 
 not-f : (a : Bool) → not a ≡ false → a ≡ true
 not-f true h = refl
@@ -207,12 +208,7 @@ module _ (p : Sheet) (n : ℕ) (t : Moment) where
 
   rows-more : (b : List ℕ) (o i : ℕ) → map (masksAt b) (offsets o 4 (i + 1)) ≡ map (masksAt b) (offsets o 4 i) ++ (masksAt b (o + 4 * i) ∷ [])
   unfolding offsets
-  rows-more b o i = ap (λ (k : ℕ). map (masksAt b) (map (λ j. o + 4 * j) (upFrom 0 k))) (add-one i) ∙ ap (λ xs. map (masksAt b) (map (λ j. o + 4 * j) xs)) (up-snoc 0 i)
-      ∙ maps (upFrom 0 i) (0 + i) ∙ ap (λ (k : ℕ). map (masksAt b) (map (λ j. o + 4 * j) (upFrom 0 i)) ++ (masksAt b (o + 4 * k) ∷ [])) (omega arith)
-    where
-      maps : (xs : List ℕ) (y : ℕ) → map (masksAt b) (map (λ j. o + 4 * j) (xs ++ (y ∷ []))) ≡ map (masksAt b) (map (λ j. o + 4 * j) xs) ++ (masksAt b (o + 4 * y) ∷ [])
-      maps [] y = refl
-      maps (x ∷ xs) y = ap (λ l. masksAt b (o + 4 * x) ∷ l) (maps xs y)
+  rows-more b o i = ap (map (masksAt b)) (map-more (λ j. o + 4 * j) i) ∙ map-append (masksAt b) (map (λ j. o + 4 * j) (upFrom 0 i)) ((o + 4 * i) ∷ [])
 
   pub moment-more : {L M N E G H : List ℕ} {m k r : Filled} (b : List ℕ) (o i : ℕ) → Adds (atMoment p n t (map (masksAt b) (offsets o 4 i))) L M E G m k
       → Adds (atMoment p n t (masksAt b (o + 4 * i) ∷ [])) M N G H k r → Adds (atMoment p n t (map (masksAt b) (offsets o 4 (i + 1)))) L N E H m r
@@ -255,10 +251,6 @@ adds-theory {L} {M} {N} {O} {E} {G} {H} {K} p n fine l a b f g h =
     let y = s .1 in
     adds-then (adds-then f g) h .adds [] (holds-none L E) .stored (record { literals-fit = omega arith; literals-most = omega arith; clauses-fit = omega arith; clauses-most = omega arith })
 
-counts : (b : List ℕ) (t : Trailer) → Counts (sheetOf b t) t
-unfolding sheetOf
-counts b t = record { facts-are = refl; actions-are = refl; rules-are = refl }
-
 -- of a sheet's bytes: the start clauses from o on, the goal clauses from q on
 module _ (b : List ℕ) (t : Trailer) (n o q : ℕ) (needs rules : List (List ℕ)) (fine : Fine (sheetOf b t)) (l : n ≤ 8)
     (eo : o ≡ bodyAt b t + 4 * t .actions + 10 * t .rules) (eq : q ≡ bodyAt b t + 4 * t .actions + 10 * t .rules + 4 * t .starts)
@@ -285,6 +277,6 @@ module _ (b : List ℕ) (t : Trailer) (n o q : ℕ) (needs rules : List (List �
       → Stored O K r (theory (sheetOf b t) n) []
   theory-stored x y f g h =
       adds-theory (sheetOf b t) n fine l x y
-      (adds-as (ap (atMoment (sheetOf b t) n (record { 0 = 0 })) starts-are) (f (sheetOf b t) n (counts b t)))
-      (adds-as (ap (atMoment (sheetOf b t) n (record { 0 = n })) goals-are) (g (sheetOf b t) n (counts b t)))
-      (h (sheetOf b t) (counts b t) sheet-writes)
+      (adds-as (ap (atMoment (sheetOf b t) n (record { 0 = 0 })) starts-are) (f (sheetOf b t) n (sheet-counts b t)))
+      (adds-as (ap (atMoment (sheetOf b t) n (record { 0 = n })) goals-are) (g (sheetOf b t) n (sheet-counts b t)))
+      (h (sheetOf b t) (sheet-counts b t) sheet-writes)

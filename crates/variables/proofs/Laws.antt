@@ -13,7 +13,7 @@ use Rattle.paper.specs.declared.Step.{Step}
 use Rattle.paper.specs.declared.Trailer.{Trailer}
 use Rattle.paper.specs.declared.Lit.{Lit}
 use Rattle.paper.specs.Counting.{bit}
-use Rattle.paper.specs.Sheet.{Sheet}
+use Rattle.paper.specs.Sheet.{Sheet, sheetOf}
 use Rattle.paper.specs.Clauses.{stride, fact, action, z, variables}
 use Rattle.paper.specs.Operations.{past, kept, given, litValue}
 use Rattle.variables.specs.declared.Meaning.{Meaning}
@@ -71,3 +71,8 @@ value-by p n t h s masks l = rw (h .facts-are, h .actions-are, h .rules-are) (ca
     cases true b = refl
     cases false true = refl
     cases false false = refl
+
+-- a sheet's counts are its trailer's
+pub sheet-counts : (b : List ℕ) (t : Trailer) → Counts (sheetOf b t) t
+unfolding sheetOf
+sheet-counts b t = record { facts-are = refl; actions-are = refl; rules-are = refl }
