@@ -5,8 +5,8 @@ use mathlib.Core.List.{List, [], _∷_, _++_, map, append-nil, append-assoc, map
 use Prim.Native.Nat.{ℕ, _+_, _-_, _*_, _≤_, _<_}
 use native.Mathlib.Numerals.{add-one}
 use native.Mathlib.Omega.{arith}
-use lib.ListN.{length, take, set, length-append, length-set}
-use lib.Seq.{take-suc-set}
+use lib.ListN.{drop, length, take, set, length-append, length-set}
+use lib.Seq.{take-suc-set, drop-set-lt, drop-drop}
 use Rattle.paper.specs.declared.Lit.{Lit}
 use Rattle.paper.specs.declared.Moment.{Moment}
 use Rattle.paper.specs.Lists.{only, each, upFrom, filter}
@@ -16,8 +16,8 @@ use Rattle.paper.specs.Clauses.{Clause, Clauses, yes·, no·, neg, fact, facts,
 use Rattle.paper.specs.Circuit.{lits}
 use Rattle.bits.proofs.Upward.{each-last, each-more}
 use Rattle.theory.specs.declared.Filled.{Filled}
-use Rattle.theory.specs.Flat.{codeOf, codes, endsFrom}
-use Rattle.theory.specs.Making.{Holds, Pushes, Adds, lit, factAs, literalsAs, besides}
+use Rattle.theory.specs.Flat.{Fit, Stored, codeOf, codes, endsFrom}
+use Rattle.theory.specs.Making.{Holds, Pushes, Ends, Adds, lit, factAs, literalsAs, besides}
 
 -- ---- lists of lists
 module _ {A B : Type 0} where
@@ -45,8 +45,15 @@ codes-append S c = append-nil (codes (S ++ (c ∷ []))) ∙ each-last S c (λ c.
 pub pushed : (L : List ℕ) (m : Filled) (l : Lit) (v : ℕ) → v ≡ codeOf l → m .literals < length L
     → Pushes (l ∷ []) L (set L (m .literals) v) m (record { literals = m .literals + 1; clauses = m .clauses })
 pushed L m l v e h = record {
-  pushes = λ E S c k. record {
-    stored = λ f.
+  pushes = λ E S c k. record { stored = holds E S c k };
+  clauses-stay = refl;
+  literals-grow = omega arith;
+  literals-behind = drop-set-lt (m .literals + 1) L (m .literals) v (omega arith);
+}
+  where
+    holds : (E : List ℕ) (S : Clauses) (c : Clause) → Holds L E m S c → Fit (set L (m .literals) v) E S (c ++ (l ∷ []))
+        → Stored (set L (m .literals) v) E (record { literals = m .literals + 1; clauses = m .clauses }) S (c ++ (l ∷ []))
+    holds E S c k f =
         let n = length-append c (l ∷ []) in
         let a = f .literals-fit in
         let b = f .literals-most in
@@ -61,9 +68,7 @@ pushed L m l v e h = record {
               ∙ (λ i. s .literals-stored i ++ (e i ∷ []))
               ∙ append-assoc (codes S) (map codeOf c) (codeOf l ∷ []) ∙ ap (λ z. codes S ++ z) (sym (map-append codeOf c (l ∷ [])));
           ends-stored = s .ends-stored;
-        };
-  };
-}
+        }
 
 -- there is no place for it
 pub push-full : (L : List ℕ) (m : Filled) (l : Lit) → (m .literals < length L → m .literals < 65535 → ⊥) → Pushes (l ∷ []) L L m m
@@ -77,66 +82,126 @@ push-full L m l h = record {
         let x = s .literals-are in
         absurd (h (omega arith) (omega arith));
   };
+  clauses-stay = refl;
+  literals-grow = omega arith;
+  literals-behind = refl;
 }
 
 -- an end is stored
-abbrev pub Ends : List ℕ → List ℕ → Filled → Filled → Type 0
-Ends E E′ m m′ = (L : List ℕ) (S : Clauses) (c : Clause) → Holds L E m S c → Holds L E′ m′ (S ++ (c ∷ [])) []
-
 pub ended : (E : List ℕ) (m : Filled) → m .clauses < length E → Ends E (set E (m .clauses) (m .literals)) m (record { literals = m .literals; clauses = m .clauses + 1 })
-ended E m h L S c k = record {
-  stored = λ f.
-      let n = length-append S (c ∷ []) in
-      let o = lits-append S (c ∷ []) in
-      let d = length-set E (m .clauses) (m .literals) in
-      let a = f .literals-fit in
-      let b = f .literals-most in
-      let g = f .clauses-fit in
-      let j = f .clauses-most in
-      let s = k .stored (record { literals-fit = omega arith; literals-most = omega arith; clauses-fit = omega arith; clauses-most = omega arith }) in
-      let x = s .clauses-are in
-      let y = s .literals-are in
-      let z : m .literals ≡ 0 + (lits S + length c) = omega arith in
-      record {
-        clauses-are = omega arith;
-        literals-are = omega arith;
-        literals-stored = s .literals-stored ∙ sym (codes-append S c);
-        ends-stored =
-            ap (λ (i : ℕ). take i (set E (m .clauses) (m .literals))) (add-one (m .clauses)) ∙ take-suc-set E (m .clauses) (m .literals) h
-            ∙ (λ i. s .ends-stored i ++ (z i ∷ [])) ∙ sym (ends-append 0 S c);
-      };
+ended E m h = record {
+  closes = λ L S c k. record { stored = holds L S c k };
+  literals-stay = refl;
+  clauses-grow = omega arith;
+  ends-behind = drop-set-lt (m .clauses + 1) E (m .clauses) (m .literals) (omega arith);
 }
+  where
+    holds : (L : List ℕ) (S : Clauses) (c : Clause) → Holds L E m S c → Fit L (set E (m .clauses) (m .literals)) (S ++ (c ∷ [])) []
+        → Stored L (set E (m .clauses) (m .literals)) (record { literals = m .literals; clauses = m .clauses + 1 }) (S ++ (c ∷ [])) []
+    holds L S c k f =
+        let n = length-append S (c ∷ []) in
+        let o = lits-append S (c ∷ []) in
+        let d = length-set E (m .clauses) (m .literals) in
+        let a = f .literals-fit in
+        let b = f .literals-most in
+        let g = f .clauses-fit in
+        let j = f .clauses-most in
+        let s = k .stored (record { literals-fit = omega arith; literals-most = omega arith; clauses-fit = omega arith; clauses-most = omega arith }) in
+        let x = s .clauses-are in
+        let y = s .literals-are in
+        let z : m .literals ≡ 0 + (lits S + length c) = omega arith in
+        record {
+          clauses-are = omega arith;
+          literals-are = omega arith;
+          literals-stored = s .literals-stored ∙ sym (codes-append S c);
+          ends-stored =
+              ap (λ (i : ℕ). take i (set E (m .clauses) (m .literals))) (add-one (m .clauses)) ∙ take-suc-set E (m .clauses) (m .literals) h
+              ∙ (λ i. s .ends-stored i ++ (z i ∷ [])) ∙ sym (ends-append 0 S c);
+        }
 
 pub end-full : (E : List ℕ) (m : Filled) → (m .clauses < length E → m .clauses < 65535 → ⊥) → Ends E E m m
-end-full E m h L S c k = record {
-  stored = λ f.
-      let n = length-append S (c ∷ []) in
-      let o = lits-append S (c ∷ []) in
-      let a = f .literals-fit in
-      let b = f .literals-most in
-      let g = f .clauses-fit in
-      let j = f .clauses-most in
-      let s = k .stored (record { literals-fit = omega arith; literals-most = omega arith; clauses-fit = omega arith; clauses-most = omega arith }) in
-      let x = s .clauses-are in
-      absurd (h (omega arith) (omega arith));
+end-full E m h = record {
+  closes = λ L S c k. record {
+    stored = λ f.
+        let n = length-append S (c ∷ []) in
+        let o = lits-append S (c ∷ []) in
+        let a = f .literals-fit in
+        let b = f .literals-most in
+        let g = f .clauses-fit in
+        let j = f .clauses-most in
+        let s = k .stored (record { literals-fit = omega arith; literals-most = omega arith; clauses-fit = omega arith; clauses-most = omega arith }) in
+        let x = s .clauses-are in
+        absurd (h (omega arith) (omega arith));
+  };
+  literals-stay = refl;
+  clauses-grow = omega arith;
+  ends-behind = refl;
 }
 
 -- ---- one after the other
+-- what is behind the longer part is as it was, by what is behind each
+behind-then : (L M N : List ℕ) (k o : ℕ) → k ≤ o → drop k M ≡ drop k L → drop o N ≡ drop o M → drop o N ≡ drop o L
+behind-then L M N k o h e f =
+    let d : k + (o - k) ≡ o = omega arith in
+    let g : (X : List ℕ) → drop o X ≡ drop (o - k) (drop k X) = λ X. sym (drop-drop (o - k) k X ∙ ap (λ (i : ℕ). drop i X) d) in
+    f ∙ g M ∙ ap (drop (o - k)) e ∙ sym (g L)
+
 pub pushes-none : {L : List ℕ} {m : Filled} → Pushes [] L L m m
-pushes-none {L} {m} = record { pushes = λ E S c h. subst (Holds L E m S) (sym (append-nil c)) h }
+pushes-none {L} {m} = record {
+  pushes = λ E S c h. subst (Holds L E m S) (sym (append-nil c)) h;
+  clauses-stay = refl;
+  literals-grow = omega arith;
+  literals-behind = refl;
+}
 
 pub pushes-then : {ls ks : Clause} {L M N : List ℕ} {m k o : Filled} → Pushes ls L M m k → Pushes ks M N k o → Pushes (ls ++ ks) L N m o
-pushes-then {ls} {ks} {N = N} {o = o} f g = record { pushes = λ E S c h. subst (Holds N E o S) (append-assoc c ls ks) (g .pushes E S (c ++ ls) (f .pushes E S c h)) }
+pushes-then {ls} {ks} {L} {M} {N} {m} {k} {o} f g =
+    let a = f .literals-grow in
+    let b = g .literals-grow in
+    record {
+      pushes = λ E S c h. subst (Holds N E o S) (append-assoc c ls ks) (g .pushes E S (c ++ ls) (f .pushes E S c h));
+      clauses-stay = g .clauses-stay ∙ f .clauses-stay;
+      literals-grow = omega arith;
+      literals-behind = behind-then L M N (k .literals) (o .literals) b (f .literals-behind) (g .literals-behind);
+    }
 
 pub adds-none : {L E : List ℕ} {m : Filled} → Adds [] L L E E m m
-adds-none {L} {E} {m} = record { adds = λ S h. subst (λ D. Holds L E m D []) (sym (append-nil S)) h }
+adds-none {L} {E} {m} = record {
+  adds = λ S h. subst (λ D. Holds L E m D []) (sym (append-nil S)) h;
+  literals-grow = omega arith;
+  literals-behind = refl;
+  clauses-grow = omega arith;
+  ends-behind = refl;
+}
 
 pub adds-then : {C D : Clauses} {L M N E G H : List ℕ} {m k o : Filled} → Adds C L M E G m k → Adds D M N G H k o → Adds (C ++ D) L N E H m o
-adds-then {C} {D} {N = N} {H = H} {o = o} f g = record { adds = λ S h. subst (λ X. Holds N H o X []) (append-assoc S C D) (g .adds (S ++ C) (f .adds S h)) }
+adds-then {C} {D} {L} {M} {N} {E} {G} {H} {m} {k} {o} f g =
+    let a = f .literals-grow in
+    let b = g .literals-grow in
+    let c = f .clauses-grow in
+    let d = g .clauses-grow in
+    record {
+      adds = λ S h. subst (λ X. Holds N H o X []) (append-assoc S C D) (g .adds (S ++ C) (f .adds S h));
+      literals-grow = omega arith;
+      literals-behind = behind-then L M N (k .literals) (o .literals) b (f .literals-behind) (g .literals-behind);
+      clauses-grow = omega arith;
+      ends-behind = behind-then E G H (k .clauses) (o .clauses) d (f .ends-behind) (g .ends-behind);
+    }
 
 -- a clause of the literals that were pushed
 pub adds-clause : {c : Clause} {L M E G : List ℕ} {m k o : Filled} → Pushes c L M m k → Ends E G k o → Adds (c ∷ []) L M E G m o
-adds-clause {c} {M = M} {E} f g = record { adds = λ S h. g M S c (f .pushes E S [] h) }
+adds-clause {c} {L} {M} {E} {G} {m} {k} {o} f g =
+    let a = f .literals-grow in
+    let b = f .clauses-stay in
+    let d = g .literals-stay in
+    let e = g .clauses-grow in
+    record {
+      adds = λ S h. g .closes M S c (f .pushes E S [] h);
+      literals-grow = omega arith;
+      literals-behind = subst (λ (i : ℕ). drop i M ≡ drop i L) (sym d) (f .literals-behind);
+      clauses-grow = omega arith;
+      ends-behind = g .ends-behind;
+    }
 
 -- a loop's next turn
 pub pushes-more : (n : ℕ) (f : ℕ → Clause) {L M N : List ℕ} {m k o : Filled} → Pushes (each (upFrom 0 n) f) L M m k → Pushes (f n) M N k o → Pushes (each (upFrom 0 (n + 1)) f) L N m o

@@ -6,7 +6,7 @@ use Prim.Native.Nat.{ℕ, _+_, _-_, _*_, _^_, _≤_, _<_}
 use native.Mathlib.Omega.{arith}
 use lib.Dec.{eqb, ltb, leb}
 use lib.Bits.{bitAnd}
-use lib.ListN.{length, getD}
+use lib.ListN.{drop, length, getD}
 use borrow.Author.Tests.{leb-true, eqb-true}
 use Rattle.paper.specs.declared.Lit.{Lit}
 use Rattle.paper.specs.declared.Moment.{Moment}
@@ -29,8 +29,8 @@ use Rattle.sheet.specs.Writes.{Writes}
 use Rattle.sheet.proofs.Writes.{need-at, rule-at}
 use Rattle.theory.specs.declared.Filled.{Filled}
 use Rattle.theory.specs.Flat.{codes, endsFrom, Stored}
-use Rattle.theory.specs.Making.{Holds, Pushes, Adds, lit, literalsAs, besides, zOf, exclusionsOf, setters, frameOf, stepsOf, Actions}
-use Rattle.theory.proofs.Laws.{Ends, pushes-then, adds-none, adds-then, adds-clause, map-filter, as-true, adds-wanted}
+use Rattle.theory.specs.Making.{Holds, Pushes, Ends, Adds, lit, literalsAs, besides, zOf, exclusionsOf, setters, frameOf, stepsOf, Actions}
+use Rattle.theory.proofs.Laws.{pushes-then, adds-none, adds-then, adds-clause, map-filter, as-true, adds-wanted}
 
 not-f : (a : Bool) → not a ≡ false → a ≡ true
 not-f true h = refl
@@ -241,15 +241,25 @@ pub holds-none : (L E : List ℕ) → Holds L E (record { literals = 0; clauses 
 unfolding codes each endsFrom
 holds-none L E = record { stored = λ f. record { clauses-are = refl; literals-are = refl; literals-stored = refl; ends-stored = refl } }
 
-pub adds-theory : {L M N O E G H K : List ℕ} {a b r : Filled} (p : Sheet) (n : ℕ) → Fine p → n ≤ 8 → 18720 ≤ length O → 6896 ≤ length K
+pub record Left (L O E K : List ℕ) (r : Filled) (S : Clauses) : Type 0 where
+  pub stored : Stored O K r S []
+  pub literals-behind : drop (r .literals) O ≡ drop (r .literals) L
+  pub ends-behind : drop (r .clauses) K ≡ drop (r .clauses) E
+
+adds-theory : {L M N O E G H K : List ℕ} {a b r : Filled} (p : Sheet) (n : ℕ) → Fine p → n ≤ 8 → 18720 ≤ length O → 6896 ≤ length K
     → Adds (atMoment p n (record { 0 = 0 }) (p .starts)) L M E G (record { literals = 0; clauses = 0 }) a → Adds (atMoment p n (record { 0 = n }) (p .goals)) M N G H a b → Adds (stepsOf p n) N O H K b r
-    → Stored O K r (theory p n) []
+    → Left L O E K r (theory p n)
 unfolding theory theoryOf
 adds-theory {L} {M} {N} {O} {E} {G} {H} {K} p n fine l a b f g h =
     let s = theory-size everyPair p fine n l in
     let x = s .0 in
     let y = s .1 in
-    adds-then (adds-then f g) h .adds [] (holds-none L E) .stored (record { literals-fit = omega arith; literals-most = omega arith; clauses-fit = omega arith; clauses-most = omega arith })
+    let w = adds-then (adds-then f g) h in
+    record {
+      stored = w .adds [] (holds-none L E) .stored (record { literals-fit = omega arith; literals-most = omega arith; clauses-fit = omega arith; clauses-most = omega arith });
+      literals-behind = w .literals-behind;
+      ends-behind = w .ends-behind;
+    }
 
 -- of a sheet's bytes: the start clauses from o on, the goal clauses from q on
 module _ (b : List ℕ) (t : Trailer) (n o q : ℕ) (needs rules : List (List ℕ)) (fine : Fine (sheetOf b t)) (l : n ≤ 8)
@@ -274,7 +284,7 @@ module _ (b : List ℕ) (t : Trailer) (n o q : ℕ) (needs rules : List (List �
       → ((p : Sheet) (i : ℕ) → Counts p t → Adds (atMoment p i (record { 0 = 0 }) (map (masksAt b) (offsets o 4 (t .starts)))) L M E G (record { literals = 0; clauses = 0 }) a)
       → ((p : Sheet) (i : ℕ) → Counts p t → Adds (atMoment p i (record { 0 = n }) (map (masksAt b) (offsets q 4 (t .goals)))) M N G H a c)
       → ((p : Sheet) → Counts p t → Writes p needs rules (t .rules) → Adds (stepsOf p n) N O H K c r)
-      → Stored O K r (theory (sheetOf b t) n) []
+      → Left L O E K r (theory (sheetOf b t) n)
   theory-stored x y f g h =
       adds-theory (sheetOf b t) n fine l x y
       (adds-as (ap (atMoment (sheetOf b t) n (record { 0 = 0 })) starts-are) (f (sheetOf b t) n (sheet-counts b t)))

@@ -1,10 +1,11 @@
 -- What a part of the clause maker adds to the arrays. What finds no place is left out, and then nothing is said.
 -- Assumes nothing.
+use mathlib.Core.Path.{_≡_}
 use mathlib.Core.Bool.{Bool, true, false, not, _&&_}
 use mathlib.Core.List.{List, [], _∷_, _++_, map}
 use Prim.Native.Nat.{ℕ, _-_, _≤_, _<_}
 use lib.Dec.{ltb}
-use lib.ListN.{getD}
+use lib.ListN.{getD, drop}
 use Rattle.paper.specs.declared.Lit.{Lit}
 use Rattle.paper.specs.declared.Moment.{Moment}
 use Rattle.paper.specs.declared.Step.{Step}
@@ -19,13 +20,27 @@ use Rattle.theory.specs.Flat.{Stored, Fit}
 pub record Holds (literals ends : List ℕ) (m : Filled) (S : Clauses) (c : Clause) : Type 0 where
   pub stored : Fit literals ends S c → Stored literals ends m S c
 
--- the literals ls are added to the clause that is not ended yet
+-- the literals ls are added to the clause that is not ended yet; what is behind them is as it was
 pub record Pushes (ls : Clause) (literals literals′ : List ℕ) (m m′ : Filled) : Type 0 where
   pub pushes : (ends : List ℕ) (S : Clauses) (c : Clause) → Holds literals ends m S c → Holds literals′ ends m′ S (c ++ ls)
+  pub clauses-stay : m′ .clauses ≡ m .clauses
+  pub literals-grow : m .literals ≤ m′ .literals
+  pub literals-behind : drop (m′ .literals) literals′ ≡ drop (m′ .literals) literals
 
--- the clauses D are added
+-- the clause is ended
+pub record Ends (ends ends′ : List ℕ) (m m′ : Filled) : Type 0 where
+  pub closes : (literals : List ℕ) (S : Clauses) (c : Clause) → Holds literals ends m S c → Holds literals ends′ m′ (S ++ (c ∷ [])) []
+  pub literals-stay : m′ .literals ≡ m .literals
+  pub clauses-grow : m .clauses ≤ m′ .clauses
+  pub ends-behind : drop (m′ .clauses) ends′ ≡ drop (m′ .clauses) ends
+
+-- the clauses D are added; what is behind them is as it was
 pub record Adds (D : Clauses) (literals literals′ ends ends′ : List ℕ) (m m′ : Filled) : Type 0 where
   pub adds : (S : Clauses) → Holds literals ends m S [] → Holds literals′ ends′ m′ (S ++ D) []
+  pub literals-grow : m .literals ≤ m′ .literals
+  pub literals-behind : drop (m′ .literals) literals′ ≡ drop (m′ .literals) literals
+  pub clauses-grow : m .clauses ≤ m′ .clauses
+  pub ends-behind : drop (m′ .clauses) ends′ ≡ drop (m′ .clauses) ends
 
 -- a literal
 abbrev pub lit : ℕ → Bool → Lit

@@ -7,7 +7,7 @@ ghost use mathlib.Core.Bool.{true, false, not, _&&_};
 ghost use mathlib.Core.List.{List, [], _∷_, _++_, map};
 ghost use Prim.Native.Nat.{ℕ, _+_, _-_, _*_, _≤_, _<_};
 ghost use lib.Dec.{ltb};
-ghost use lib.ListN.{length, getD};
+ghost use lib.ListN.{length, getD, drop};
 ghost use Rattle.paper.specs.Lists.{only};
 ghost use Rattle.paper.specs.Counting.{bit, before, after};
 ghost use Rattle.paper.specs.Sheet as paper;
@@ -63,7 +63,7 @@ fn push_if(literals: &mut [u16], m: Filled, wanted: bool, x: u16, sign: bool) ->
 
 // The clause ends here.
 fn end(ends: &mut [u16], m: Filled) -> Filled
-    ensures { λ r. ⌜ ((literals : List ℕ) (S : clauses.Clauses) (c : clauses.Clause) → spec.Holds literals (now (ends .entry)) m S c → spec.Holds literals (now (ends .exit)) r (S ++ (c ∷ [])) []) ⌝ }
+    ensures { λ r. ⌜ spec.Ends (now (ends .entry)) (now (ends .exit)) m r ⌝ }
 {
     let at = m.clauses as usize;
     if ends.len() <= at {
@@ -611,7 +611,8 @@ fn clauses_at(
 // T(P) at horizon n: the start clauses at moment 0, the goal clauses at moment n, the clauses of each step.
 pub fn theory(b: &[u8], t: Trailer, n: usize, literals: &mut [u16], ends: &mut [u16]) -> Filled
     requires { ⌜ Whole (now b) t × paper.Fine (paper.sheetOf (now b) t) × (n ≤ 8) × (18720 ≤ length (now literals)) × (6896 ≤ length (now ends)) ⌝ }
-    ensures { λ r. ⌜ Stored (now (literals .exit)) (now (ends .exit)) r (clauses.theory (paper.sheetOf (now (b .entry)) t) n) [] ⌝ }
+    ensures stored { λ r. ⌜ Stored (now (literals .exit)) (now (ends .exit)) r (clauses.theory (paper.sheetOf (now (b .entry)) t) n) [] ⌝ }
+    ensures behind { λ r. ⌜ (drop (r .literals) (now (literals .exit)) ≡ drop (r .literals) (now (literals .entry))) × (drop (r .clauses) (now (ends .exit)) ≡ drop (r .clauses) (now (ends .entry))) ⌝ }
 {
     let needs = sheet::needs(b, t);
     let rules = sheet::rules(b, t);

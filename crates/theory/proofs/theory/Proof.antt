@@ -33,8 +33,9 @@ same-length-2 c = search needs
 
 returns : tie.Need-returns
 returns c = let q = c .before .before .before .before .before .before .before .before .before .before .before .before .before .before .before .before .before .before .before .before .before .before .before .before .before .before .before .before .pre in
-    theory-stored _ _ _ _ _ _ _ (q .1) (q .2) (c .before .before .before .before .before .before .before .before .before .before .before .before .before .before .before .before .before .before .before .before .starts-at .ensures) (c .before .before .before .before .before .before .before .before .before .before .before .before .goals-at .ensures) (c .before .before .before .before .before .before .before .before .before .before .before .before .before .before .before .before .before .before .before .before .before .before .before .before .needs .ensures) (c .before .before .before .before .before .before .before .before .before .before .before .before .before .before .before .before .before .before .before .before .before .before .before .rules .ensures)
-    (let s = same-length c in let k = q .3 in omega arith) (let s = same-length-2 c in let k = q .4 in omega arith) (c .before .before .before .before .before .before .before .before .before .before .before .before .before .before .before .before .before .before .before .clauses-at .ensures) (c .before .before .before .before .before .before .before .before .before .before .before .clauses-at2 .ensures) (c .before .before .before .before .steps .ensures)
+    let h = theory-stored _ _ _ _ _ _ _ (q .1) (q .2) (c .before .before .before .before .before .before .before .before .before .before .before .before .before .before .before .before .before .before .before .before .starts-at .ensures) (c .before .before .before .before .before .before .before .before .before .before .before .before .goals-at .ensures) (c .before .before .before .before .before .before .before .before .before .before .before .before .before .before .before .before .before .before .before .before .before .before .before .before .needs .ensures) (c .before .before .before .before .before .before .before .before .before .before .before .before .before .before .before .before .before .before .before .before .before .before .before .rules .ensures)
+    (let s = same-length c in let k = q .3 in omega arith) (let s = same-length-2 c in let k = q .4 in omega arith) (c .before .before .before .before .before .before .before .before .before .before .before .before .before .before .before .before .before .before .before .clauses-at .ensures) (c .before .before .before .before .before .before .before .before .before .before .before .clauses-at2 .ensures) (c .before .before .before .before .steps .ensures) in
+    (h .stored, (h .literals-behind, h .ends-behind))
 
 pub theory-spec : {M : Type 1} → statement M
 theory-spec =
