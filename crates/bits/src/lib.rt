@@ -32,6 +32,7 @@ pub fn one_if(t: bool) -> u32
     if t { 1 } else { 0 }
 }
 
+// A byte as a 16-bit number.
 fn wide(x: u8) -> u16
     ensures { λ r. ⌜ (r ≡ x) × (r < 256) ⌝ }
 {
@@ -46,6 +47,7 @@ pub fn word(b: &[u8], at: usize) -> u16
     wide(b[at]) + 256 * wide(b[at + 1])
 }
 
+// A byte as a 32-bit number.
 fn wider(x: u8) -> u32
     ensures { λ r. ⌜ (r ≡ x) × (r < 256) ⌝ }
 {

@@ -51,6 +51,7 @@ fn push(literals: &mut [u16], m: Filled, x: u16, sign: bool) -> Filled
     }
 }
 
+// A literal more where it is wanted.
 fn push_if(literals: &mut [u16], m: Filled, wanted: bool, x: u16, sign: bool) -> Filled
     requires { ⌜ x ≤ 432 ⌝ }
     ensures { λ r. ⌜ spec.Pushes (only wanted (spec.lit x sign)) (now (literals .entry)) (now (literals .exit)) m r ⌝ }
@@ -156,6 +157,7 @@ fn pair_fact(
     pair(literals, ends, m, y, sign, x, false)
 }
 
+// Such a clause where it is wanted.
 fn pair_fact_if(
     literals: &mut [u16],
     ends: &mut [u16],
@@ -237,6 +239,7 @@ fn need_clauses(
     pair_facts(literals, ends, m, t, step.before(), one, nil, x, false)
 }
 
+// What every action needs.
 fn needs_of_step(
     literals: &mut [u16],
     ends: &mut [u16],
@@ -301,6 +304,7 @@ fn z_clauses(
     z_follows(literals, ends, second, t, step.before(), one, nil, a, z)
 }
 
+// The clauses of every rule's z.
 fn z_of_step(
     literals: &mut [u16],
     ends: &mut [u16],
@@ -338,6 +342,7 @@ fn effect_clauses(
     pair_facts(literals, ends, m, t, step.after(), one, nil, x, true)
 }
 
+// What every rule sets.
 fn effects_of_step(
     literals: &mut [u16],
     ends: &mut [u16],
@@ -365,6 +370,7 @@ fn excludes(a: usize, b: usize) -> bool
     a < b
 }
 
+// Of two actions that exclude each other at most one is chosen.
 fn exclusion(
     literals: &mut [u16],
     ends: &mut [u16],
@@ -405,6 +411,7 @@ fn exclusions_of(
     so
 }
 
+// All exclusions of a step.
 fn exclusions_of_step(
     literals: &mut [u16],
     ends: &mut [u16],
@@ -451,7 +458,7 @@ fn push_setters(
     so
 }
 
-// Fact k keeps the value opposite to sign, unless a rule fires whose number i has the fact.
+// Fact k keeps the value that makes its literal of this sign false, unless a rule fires whose number i has the fact.
 fn frame(
     literals: &mut [u16],
     ends: &mut [u16],
@@ -474,7 +481,7 @@ fn frame(
     end(ends, third)
 }
 
-// A fact that is 1 stays 1 unless a rule sets it to 0, and the other way round.
+// A fact that is 1 stays 1 unless a rule sets it to 0 (number 4 of a rule), and the other way round (number 3).
 fn frames_of(
     literals: &mut [u16],
     ends: &mut [u16],
@@ -491,6 +498,7 @@ fn frames_of(
     frame(literals, ends, first, t, rules, step, 3, true, k)
 }
 
+// Every fact keeps its value unless a rule sets it.
 fn frames_of_step(
     literals: &mut [u16],
     ends: &mut [u16],
@@ -546,6 +554,7 @@ fn step_clauses(
     frames_of_step(literals, ends, exclusion, t, rules, step)
 }
 
+// The clauses of steps 0 to n - 1.
 fn steps(
     literals: &mut [u16],
     ends: &mut [u16],
