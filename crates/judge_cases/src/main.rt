@@ -1,0 +1,11 @@
+// Judge, called as C calls it, on the cases of standard input: one line a case.
+mod cases;
+mod given;
+mod lines;
+mod text;
+
+fn main() {
+    let mut buf = io::large_buffer();
+    let n = io::read_full(0, &mut buf);
+    cases::try_all(&buf[..n]);
+}
