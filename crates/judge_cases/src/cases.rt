@@ -1,4 +1,5 @@
-// The lines of the input: what is lent, and the cases.
+// The lines of the input: they tell what is lent, or are cases.
+use crate::given::CASE;
 use crate::given::Given;
 use crate::lines::line;
 use crate::lines::line_into;
@@ -8,7 +9,7 @@ use crate::text::number;
 ghost use Prim.Native.Nat.{_≤_};
 ghost use lib.ListN.{length};
 
-// The first bytes, lent.
+// The first n bytes, lent.
 fn lent(bytes: &[u8; 4096], n: usize) -> &[u8] {
     let all = &bytes[..];
     if n <= all.len() {
@@ -17,7 +18,7 @@ fn lent(bytes: &[u8; 4096], n: usize) -> &[u8] {
     all
 }
 
-// Judge into an answer slice.
+// Judge of what is given, into an answer slice.
 fn judge_into(g: Given, answer: &mut [u8]) -> u32 {
     let sheet = g.sheet;
     let table = g.table;
@@ -38,7 +39,7 @@ fn judge_into(g: Given, answer: &mut [u8]) -> u32 {
     )
 }
 
-// A case: a line with its label, the code, and the place and the value, or where its length is given, the answer's bytes.
+// A case: the numbers of its answer, or the answer's bytes where a line has told its length.
 fn try_case(g: Given, label: &[u8]) {
     let mut answer = [0xEEu8; 12];
     let n = g.into;
@@ -65,7 +66,7 @@ fn take(g: Given, kind: u8, text: &[u8], from: usize) -> Given
     given
 }
 
-// A line: its kind is its first byte, its numbers stand behind a colon; the label of a case is between.
+// A line: its first byte is its kind; its numbers stand behind a colon, in front of which a case has its label.
 fn try_line(g: Given, text: &[u8]) -> Given {
     if text.len() < 2 {
         return g;
@@ -73,7 +74,7 @@ fn try_line(g: Given, text: &[u8]) -> Given {
     let kind = text[0];
     let colon = find(text, 2, b':');
     let given = take(g, kind, text, colon);
-    if kind == b' ' {
+    if kind == CASE {
         try_case(given, &text[2..colon]);
     }
     given

@@ -1,4 +1,17 @@
-// What is lent to judge, as the lines of the input give it.
+// What is lent to judge, as the lines of the input tell it.
+
+// The kinds of lines, by their first byte.
+const SHEET: u8 = b's';
+
+const TABLE: u8 = b't';
+
+const ROWS: u8 = b'r';
+
+const LENGTH: u8 = b'l';
+
+const ANSWER: u8 = b'a';
+
+pub const CASE: u8 = b' ';
 
 // The bytes are all[..end].
 pub struct Bytes {
@@ -14,7 +27,7 @@ impl Bytes {
         }
     }
 
-    // A byte more, where there is room.
+    // A number's low byte more, where there is room.
     pub fn byte(mut self, n: u32) -> Bytes {
         let at = self.end;
         if at < 4096 {
@@ -31,35 +44,28 @@ impl Bytes {
 
     // A 32-bit number more, low byte first.
     pub fn long(self, n: u32) -> Bytes {
-        self.word(n % 65536).word(n / 65536)
+        self.word(n).word(n / 65536)
     }
 
-    // False and True.
-    pub fn constants() -> Bytes {
-        Bytes::new()
-            .long(0)
-            .long(0)
-            .long(0)
-            .long(0)
-            .long(1)
-            .long(0)
-            .long(0)
-            .long(0)
+    // A row more that is False or True.
+    pub fn constant(self, kind: u32) -> Bytes {
+        self.long(kind).long(0).long(0).long(0)
     }
 
-    // So many of the bytes.
+    // The first n of the bytes, or bytes 0 behind them too.
     pub fn cut(mut self, n: u32) -> Bytes {
         self.end = n as usize;
         self
     }
 }
 
-// The sheet, the table, the numbers of the call (horizon, count, root, state), the masks, and the answer slice's length.
+// The sheet, the table, the call (horizon, count, root, state) and how many of its numbers are told, the masks, and the
+// length of the answer slice, which is above 12 until a line tells it.
 pub struct Given {
     pub sheet: Bytes,
     pub table: Bytes,
     pub call: [u32; 4],
-    pub numbers: usize,
+    pub told: usize,
     pub masks: Bytes,
     pub into: usize,
 }
@@ -71,36 +77,37 @@ impl Given {
             sheet: none,
             table: none,
             call: [0; 4],
-            numbers: 0,
+            told: 0,
             masks: none,
             into: 13,
         }
     }
 
-    // A line of this kind begins: what it gives is empty, but for the rows False and True in front of others.
+    // A line of this kind begins.
     pub fn begin(mut self, kind: u8) -> Given {
-        if kind == b's' {
-            self.sheet = Bytes::new();
+        let none = Bytes::new();
+        if kind == SHEET {
+            self.sheet = none;
         }
-        if kind == b't' {
-            self.table = Bytes::new();
+        if kind == TABLE {
+            self.table = none;
         }
-        if kind == b'r' {
-            self.table = Bytes::constants();
+        if kind == ROWS {
+            self.table = none.constant(0).constant(1);
         }
-        if kind == b' ' {
-            self.numbers = 0;
-            self.masks = Bytes::new();
+        if kind == CASE {
+            self.told = 0;
+            self.masks = none;
         }
         self
     }
 
-    // A number of the call, then the bytes of the masks.
+    // A number of a case: the call's, then the bytes of the masks.
     fn argument(mut self, n: u32) -> Given {
-        let at = self.numbers;
+        let at = self.told;
         if at < 4 {
             self.call[at] = n;
-            self.numbers = at + 1;
+            self.told = at + 1;
             return self;
         }
         let masks = self.masks;
@@ -112,19 +119,19 @@ impl Given {
     pub fn put(mut self, kind: u8, n: u32) -> Given {
         let sheet = self.sheet;
         let table = self.table;
-        if kind == b's' {
+        if kind == SHEET {
             self.sheet = sheet.word(n);
         }
-        if (kind == b't') | (kind == b'r') {
+        if (kind == TABLE) | (kind == ROWS) {
             self.table = table.long(n);
         }
-        if kind == b'l' {
+        if kind == LENGTH {
             self.table = table.cut(n);
         }
-        if kind == b'a' {
+        if kind == ANSWER {
             self.into = n as usize;
         }
-        if kind == b' ' {
+        if kind == CASE {
             return self.argument(n);
         }
         self

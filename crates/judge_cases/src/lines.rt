@@ -1,4 +1,4 @@
-// Lines: the label, the code, and the numbers or the bytes of the answer.
+// Lines of the output: the label, the code, and the numbers or the bytes of the answer.
 ghost use Prim.Native.Nat.{_+_, _<_, _≤_};
 
 fn wide(b: u8) -> u64

@@ -1,4 +1,4 @@
-// Judge, called as C calls it, on the cases of standard input: one line a case.
+// Judge, called as C calls it, on the cases of standard input: one line a case. The head of the file stdin says how they are written.
 mod cases;
 mod given;
 mod lines;
