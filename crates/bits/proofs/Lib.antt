@@ -3,3 +3,4 @@ pub mod Machine
 pub mod Filled
 pub mod Told
 pub mod Upward
+pub mod Agree

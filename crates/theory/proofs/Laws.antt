@@ -2,11 +2,11 @@
 use mathlib.Core.Path.{_≡_, refl, sym, ap, _∙_, subst}
 use mathlib.Core.Bool.{Bool, true, false, not, cond}
 use mathlib.Core.List.{List, [], _∷_, _++_, map, append-nil, append-assoc, map-append}
-use Prim.Native.Nat.{ℕ, _+_, _-_, _*_, _≤_, _<_}
+use Prim.Native.Nat.{ℕ, _+_, _*_, _≤_, _<_}
 use native.Mathlib.Numerals.{add-one}
 use native.Mathlib.Omega.{arith}
 use lib.ListN.{drop, length, take, set, length-append, length-set}
-use lib.Seq.{take-suc-set, drop-set-lt, drop-drop}
+use lib.Seq.{take-suc-set, drop-set-lt}
 use Rattle.paper.specs.declared.Lit.{Lit}
 use Rattle.paper.specs.declared.Moment.{Moment}
 use Rattle.paper.specs.Lists.{only, each, upFrom, filter}
@@ -15,6 +15,7 @@ use Rattle.paper.specs.Sheet.{Sheet}
 use Rattle.paper.specs.Clauses.{Clause, Clauses, yes·, no·, neg, fact, facts, literals}
 use Rattle.paper.specs.Circuit.{lits}
 use Rattle.bits.proofs.Upward.{each-last, each-more}
+use Rattle.bits.proofs.Agree.{drop-later}
 use Rattle.theory.specs.declared.Filled.{Filled}
 use Rattle.theory.specs.Flat.{Fit, Stored, codeOf, codes, endsFrom}
 use Rattle.theory.specs.Making.{Holds, Pushes, Ends, Adds, lit, factAs, literalsAs, besides}
@@ -141,10 +142,7 @@ end-full E m h = record {
 -- ---- one after the other
 -- what is behind the longer part is as it was, by what is behind each
 behind-then : (L M N : List ℕ) (k o : ℕ) → k ≤ o → drop k M ≡ drop k L → drop o N ≡ drop o M → drop o N ≡ drop o L
-behind-then L M N k o h e f =
-    let d : k + (o - k) ≡ o = omega arith in
-    let g : (X : List ℕ) → drop o X ≡ drop (o - k) (drop k X) = λ X. sym (drop-drop (o - k) k X ∙ ap (λ (i : ℕ). drop i X) d) in
-    f ∙ g M ∙ ap (drop (o - k)) e ∙ sym (g L)
+behind-then L M N k o h e f = f ∙ drop-later k o M L h e
 
 pub pushes-none : {L : List ℕ} {m : Filled} → Pushes [] L L m m
 pushes-none {L} {m} = record {
