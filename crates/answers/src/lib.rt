@@ -1,10 +1,12 @@
 // What comes back: the code and the numbers of an answer.
+use paper::Built;
 use paper::Checked;
+use paper::Compiled;
 use paper::Ended;
 use paper::Fault;
 use paper::Judged;
 ghost use mathlib.Core.Path.{_≡_};
-ghost use Rattle.paper.specs.Answers.{faultCode, faultPlace, checkCode, checkNumbers, runCode, runNumbers, judgeCode, judgeNumbers};
+ghost use Rattle.paper.specs.Answers.{faultCode, faultPlace, checkCode, checkNumbers, runCode, runNumbers, compileCode, compileNumbers, judgeCode, judgeNumbers};
 
 // A refusal's number.
 fn fault_code(f: Fault) -> u32
@@ -73,6 +75,45 @@ pub fn run_numbers(e: Ended) -> [u32; 4]
     match e {
         Ended::Refused(f) => [fault_place(f), 0, 0, 0],
         Ended::Went(done, state, goal) => [0, done, state as u32, bits::one_if(goal)],
+    }
+}
+
+fn built_code(b: Built) -> u32
+    ensures { λ r. ⌜ r ≡ compileCode (Compiled.Answered b) ⌝ }
+{
+    match b {
+        Built::TooMuch => 7,
+        Built::NoRoom(_) => 8,
+        Built::Whole(_, _, _) => 0,
+    }
+}
+
+pub fn compile_code(c: Compiled) -> u32
+    ensures { λ r. ⌜ r ≡ compileCode c ⌝ }
+{
+    match c {
+        Compiled::Refused(f) => fault_code(f),
+        Compiled::Answered(b) => built_code(b),
+    }
+}
+
+// Place, the horizon where a limit ended it, effort, rows and root.
+fn built_numbers(n: u32, b: Built) -> [u32; 5]
+    ensures { λ r. ⌜ r ≡ compileNumbers n (Compiled.Answered b) ⌝ }
+{
+    match b {
+        Built::TooMuch => [0, n, 0, 0, 0],
+        Built::NoRoom(effort) => [0, n, effort, 0, 0],
+        Built::Whole(effort, rows, root) => [0, 0, effort, rows, root],
+    }
+}
+
+pub fn compile_numbers(n: u32, c: Compiled) -> [u32; 5]
+    ensures { λ r. ⌜ r ≡ compileNumbers n c ⌝ }
+{
+    match c {
+        Compiled::Refused(f) => [fault_place(f), 0, 0, 0, 0],
+        Compiled::Answered(b) => built_numbers(n, b),
     }
 }
 
