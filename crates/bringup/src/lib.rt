@@ -1,6 +1,6 @@
 // The operations for C: numbers and byte slices in; the code returned, the numbers written into the answer slice.
 ghost use mathlib.Core.Path.{_≡_};
-ghost use Rattle.paper.specs.Answers.{checkLeft, runLeft, judgeLeft};
+ghost use Rattle.paper.specs.Answers.{checkLeft, runLeft, compileLeft, judgeLeft};
 
 // Check: place and count into the answer.
 #[no_mangle]
@@ -24,6 +24,25 @@ pub extern "C" fn bringup_run(sheet: &[u8], state: u32, schedule: &[u8], answer:
     let numbers = answers::run_numbers(e);
     bits::tell(answer, &numbers);
     answers::run_code(e)
+}
+
+// Compile: place, horizon, effort, rows and root into the answer, the circuit into the rows.
+#[no_mangle]
+pub extern "C" fn bringup_compile(
+    sheet: &[u8],
+    horizon: u32,
+    limit: u32,
+    rows: &mut [u8],
+    answer: &mut [u8],
+) -> u32
+    ensures code { λ r. ⌜ r ≡ compileLeft (now (sheet .entry)) horizon limit (now (rows .entry)) (now (answer .entry)) .code ⌝ }
+    ensures written { λ r. ⌜ now (answer .exit) ≡ compileLeft (now (sheet .entry)) horizon limit (now (rows .entry)) (now (answer .entry)) .answer ⌝ }
+    ensures filled { λ r. ⌜ now (rows .exit) ≡ compileLeft (now (sheet .entry)) horizon limit (now (rows .entry)) (now (answer .entry)) .rows ⌝ }
+{
+    let c = compile::compile(sheet, horizon, limit, rows);
+    let numbers = answers::compile_numbers(horizon, c);
+    bits::tell(answer, &numbers);
+    answers::compile_code(c)
 }
 
 // Judge: place and the root's value into the answer.
