@@ -3,9 +3,9 @@ use crate::given::CASE;
 use crate::given::Given;
 use crate::lines::line;
 use crate::lines::line_into;
-use crate::text::find;
-use crate::text::find_digit;
-use crate::text::number;
+use text::find;
+use text::find_digit;
+use text::number;
 ghost use Prim.Native.Nat.{_≤_};
 ghost use lib.ListN.{length};
 

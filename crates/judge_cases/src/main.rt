@@ -2,7 +2,6 @@
 mod cases;
 mod given;
 mod lines;
-mod text;
 
 fn main() {
     let mut buf = io::large_buffer();

@@ -1,18 +1,20 @@
--- `judge_cases::text::find` is safe and ends: i nears the length. Assumes nothing.
-use Prim.Native.Nat.{_-_, _≤_}
-use lib.ListN.{length}
+-- `compile_cases::rows::front` is safe and ends: i nears 0. Assumes nothing.
+use Prim.Native.Nat.{_≤_}
 use borrow.Author.Needs.{needs}
-use Rattle.judge_cases.proofs.text.find.Statement.{statement}
-use Rattle.judge_cases.proofs.text.find.Tie as tie
+use Rattle.compile_cases.proofs.rows.front.Statement.{statement}
+use Rattle.compile_cases.proofs.rows.front.Tie as tie
 
 abbrev Inv-loop : tie.InvT-loop
-Inv-loop text from b i₀ i = (from ≤ i) × (i ≤ length text)
+Inv-loop bytes n b i₀ i = i ≤ n
 
 abbrev μ-loop : tie.MeasureT-loop
-μ-loop text from b i₀ i = length text - i
+μ-loop bytes n b i₀ i = i
 
 loop-holds : tie.Need-loop-holds Inv-loop μ-loop
 loop-holds c = search needs
+
+sub-if1 : tie.Need-sub-if1 Inv-loop μ-loop
+sub-if1 c = search needs
 
 shared-slice-read-if1 : tie.Need-shared-slice-read-if1 Inv-loop μ-loop
 shared-slice-read-if1 c = search needs
@@ -20,8 +22,8 @@ shared-slice-read-if1 c = search needs
 returns : tie.Need-returns Inv-loop μ-loop
 returns c = search needs
 
-add-i : tie.Need-add-i Inv-loop μ-loop
-add-i c = search needs
+sub-i : tie.Need-sub-i Inv-loop μ-loop
+sub-i c = search needs
 
 loop-less : tie.Need-loop-less Inv-loop μ-loop
 loop-less c = search needs
@@ -32,16 +34,17 @@ loop-again c = search needs
 returns-2 : tie.Need-returns-2 Inv-loop μ-loop
 returns-2 c = search needs
 
-pub find-spec : {M : Type 1} → statement M
-find-spec =
+pub front-spec : {M : Type 1} → statement M
+front-spec =
     tie.close
     (tie.spec
     Inv-loop
     μ-loop
     loop-holds
+    sub-if1
     shared-slice-read-if1
     returns
-    add-i
+    sub-i
     loop-less
     loop-again
     returns-2)

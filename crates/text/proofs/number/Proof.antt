@@ -1,9 +1,9 @@
--- `judge_cases::text::number` is safe and ends: i nears the length. Assumes nothing.
+-- `text::number` is safe and ends: i nears the length. Assumes nothing.
 use Prim.Native.Nat.{_-_, _≤_, _<_}
 use lib.ListN.{length}
 use borrow.Author.Needs.{needs}
-use Rattle.judge_cases.proofs.text.number.Statement.{statement}
-use Rattle.judge_cases.proofs.text.number.Tie as tie
+use Rattle.text.proofs.number.Statement.{statement}
+use Rattle.text.proofs.number.Tie as tie
 
 abbrev Inv-loop : tie.InvT-loop
 Inv-loop text from n₀ i₀ n i = (from < i) × (i ≤ length text)

@@ -1,9 +1,9 @@
--- `judge_cases::text::find_digit` is safe and ends: i nears the length. Assumes nothing.
+-- `text::find_digit` is safe and ends: i nears the length. Assumes nothing.
 use Prim.Native.Nat.{_-_, _≤_}
 use lib.ListN.{length}
 use borrow.Author.Needs.{needs}
-use Rattle.judge_cases.proofs.text.find_digit.Statement.{statement}
-use Rattle.judge_cases.proofs.text.find_digit.Tie as tie
+use Rattle.text.proofs.find_digit.Statement.{statement}
+use Rattle.text.proofs.find_digit.Tie as tie
 
 abbrev Inv-loop : tie.InvT-loop
 Inv-loop text from i₀ i = (from ≤ i) × (i ≤ length text)

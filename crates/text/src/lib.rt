@@ -1,4 +1,4 @@
-// Lines of text, and the numbers in them.
+// The text of cases: lines, and the numbers in them; used by the programs of cases alone.
 ghost use Prim.Native.Nat.{_<_, _≤_};
 ghost use lib.ListN.{length};
 

@@ -1,0 +1,51 @@
+-- `compile_cases::cases::try_case` is safe: no more is lent than there is. Assumes nothing.
+use mathlib.Core.Path.{_≡_, sym}
+use Prim.Native.Nat.{_≤_}
+use native.Mathlib.Omega.{arith}
+use lib.ListN.{length}
+use lib.Seq.{length-take-le}
+use borrow.Author.Needs.{needs}
+use Rattle.compile_cases.proofs.cases.try_case.Statement.{statement}
+use Rattle.compile_cases.proofs.cases.try_case.Tie as tie
+
+fresh-requires : tie.Need-fresh-requires
+fresh-requires c κs = search needs
+
+array-read-at-most : tie.Need-array-read-at-most
+array-read-at-most c = search needs
+
+cast-at-most : tie.Need-cast-at-most
+cast-at-most c = search needs
+
+at-most-requires : tie.Need-at-most-requires
+at-most-requires c κs = search needs
+
+array-borrow-prefix-all : tie.Need-array-borrow-prefix-all
+array-borrow-prefix-all c = search needs
+
+slice-aggregate-try-rows : tie.Need-slice-aggregate-try-rows
+slice-aggregate-try-rows c =
+    let n = c .before .at-most .result in
+    let l = c .before .before .before .fresh .result in
+    let most : n ≤ 1048608 = c .before .at-most .ensures in
+    let all : 1048608 ≡ length l = c .before .before .before .fresh .ensures in
+    sym (length-take-le n l (omega arith))
+
+try-rows-requires : tie.Need-try-rows-requires
+try-rows-requires c κs = search needs
+
+returns : tie.Need-returns
+returns c = search needs
+
+pub try-case-spec : {M : Type 1} → statement M
+try-case-spec =
+    tie.close
+    (tie.spec
+    fresh-requires
+    array-read-at-most
+    cast-at-most
+    at-most-requires
+    array-borrow-prefix-all
+    slice-aggregate-try-rows
+    try-rows-requires
+    returns)
