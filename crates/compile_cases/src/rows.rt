@@ -44,7 +44,7 @@ fn sum(bytes: &[u8]) -> u64 {
     s
 }
 
-// The numbers of n rows from an offset on.
+// The numbers of the first n rows.
 fn print_rows(bytes: &[u8], n: usize)
     requires { ⌜ 16 * n ≤ length (now bytes) ⌝ }
 {
