@@ -1,38 +1,36 @@
 -- Demand 3 over what the calls leave: judge, asked about the rows, count and root that an answered compile left, says yes exactly if the state is a start,
 -- no step has two actions, and the run ends in the goal. Assumes nothing.
-use mathlib.Core.Path.{_≡_, sym, ap, _∙_}
-use mathlib.Core.Logic.{_↔_}
-use mathlib.Core.Bool.{Bool, true, not, _&&_}
-use mathlib.Core.List.{List, [], _++_, map, append-assoc}
-use Prim.Native.Nat.{ℕ, _+_, _-_, _*_, _/_, _^_, min, _≤_, _<_}
+use mathlib.Core.Path.{_≡_, refl, sym, ap, _∙_}
+use mathlib.Core.Bool.{Bool, true, false, not, _&&_, cond}
+use mathlib.Core.List.{List, [], _∷_}
+use Prim.Native.Nat.{ℕ, _*_, _/_, _^_, min, _≤_, _<_}
 use native.Mathlib.Omega.{arith}
 use lib.Dec.{leb}
-use lib.ListN.{length, drop, replicate, length-map}
+use lib.ListN.{length, length-map}
 use borrow.Author.Tests.{leb-true, le-leb, lt-ltb, eq-eqb}
 use Rattle.paper.specs.declared.Built.{Built}
 use Rattle.paper.specs.declared.Compiled.{Compiled}
 use Rattle.paper.specs.declared.Judged.{Judged}
+use Rattle.paper.specs.declared.Ended.{Ended}
+use Rattle.paper.specs.declared.Fault.{Fault}
 use Rattle.paper.specs.declared.Fault.the-variants.{BadCall}
-use Rattle.paper.specs.Lists.{all, filter, each, upFrom}
-use Rattle.paper.specs.Sheet.{Sheet, decoded, word, fits, decode, isStart, Fine}
-use Rattle.paper.specs.Step.{entriesFit, reaches}
+use Rattle.paper.specs.Lists.{all, filter, upFrom}
+use Rattle.paper.specs.Sheet.{Sheet, Decoded, refused, decoded, word, fits, decode, Fine}
+use Rattle.paper.specs.Step.{entriesFit, run, reaches}
 use Rattle.paper.specs.Clauses.{variables, theory, everyPair}
 use Rattle.paper.specs.Circuit.{Table, compile, builtOf}
-use Rattle.paper.specs.Operations.{onSheet, rowSize, rowBytes, room, compileSheet, compileOf, judge, goodRowAt, tableOf, masksOf, goodJudge, judgedBy, judgeSheet, judgeOf}
-use Rattle.paper.specs.Answers.{filled, compileRows, tableFor, compileLeft}
-use Rattle.paper.specs.Sets.{maskOf}
+use Rattle.paper.specs.Operations.{onSheet, goodRun, runSheet, runOf, rowSize, room, compileSheet, compileOf, judge, goodRowAt, tableOf, masksOf, goodJudge, judgedBy, judgeSheet, judgeOf}
+use Rattle.paper.specs.Answers.{faultCode, runCode, compileCode, judgeCode, runNumbers, compileNumbers, judgeNumbers, told, toldAt, filled, compileRows, Left, LeftRows, tableFor, runLeft, compileLeft, judgeLeft}
+use Rattle.paper.specs.Sets.{leads}
 use Rattle.paper.specs.Planning.{Answered}
-use Rattle.paper.proofs.Basic.{Every, and-i, by}
+use Rattle.paper.proofs.Basic.{Every, and-i, and-e, by}
 use Rattle.paper.proofs.Decoded.{decoded-fine, length-count}
 use Rattle.paper.proofs.RowTheorem.{Sound}
 use Rattle.paper.proofs.Size.{variables-most}
 use Rattle.paper.proofs.Limits.{answered}
-use Rattle.paper.proofs.Demand3.{taken, serial}
-use Rattle.paper.proofs.Buffers.{filled-length}
-use Rattle.paper.proofs.ReadBack.{Fits, table-read, sound-fits, no-bad-row}
-
-value-same : (v w : Bool) → Judged.Value v ≡ Judged.Value w → v ≡ w
-value-same v w h = cc
+use Rattle.paper.proofs.Demand3.{taken, judge-leads}
+use Rattle.paper.proofs.Buffers.{filled-length, room-most}
+use Rattle.paper.proofs.ReadBack.{Fits, told-read, sound-fits, behind, filled-as, filled-read, no-bad-row}
 
 compiled-whole : (n limit k : ℕ) (p : Sheet) (e rows root : ℕ) → compileSheet n limit k p ≡ Compiled.Answered (Built.Whole e rows root) → (n ≤ 8) × (builtOf limit k (theory p n) ≡ Built.Whole e rows root)
 compiled-whole n limit k p e rows root h = by (leb n 8)
@@ -62,13 +60,6 @@ module _ (b : List ℕ) (p : Sheet) (d : decode b ≡ decoded p) (n limit : ℕ)
   abbrev table : Table
   table = compile (theory p n) .table
 
-  abbrev rest : List ℕ
-  rest = replicate (rowSize * room buf - length (each table rowBytes)) 0 ++ drop (rowSize * room buf) buf
-
-  filled-as : filled table buf ≡ each table rowBytes ++ rest
-  unfolding filled
-  filled-as = append-assoc (each table rowBytes) (replicate (rowSize * room buf - length (each table rowBytes)) 0) (drop (rowSize * room buf) buf)
-
   same-room : room (filled table buf) ≡ room buf
   unfolding room
   same-room = ap (λ l. min (l / rowSize) 65536) (filled-length table buf (whole .within-room))
@@ -89,7 +80,7 @@ module _ (b : List ℕ) (p : Sheet) (d : decode b ≡ decoded p) (n limit : ℕ)
   all-fit =
       let v = variables-most p sheet-fine n horizon in
       let r = whole .within-room in
-      sound-fits (variables p n) table (omega arith) (omega arith) sound
+      sound-fits (λ y. leb 1 y && leb y (variables p n)) (λ y h. let k = leb-true y (variables p n) (and-e (leb 1 y) (leb y (variables p n)) h .1) in omega arith) table (omega arith) sound
 
   -- a call of judge that its checks let through
   module _ (s : ℕ) (hs : s < 2 ^ p .F) (masks : List ℕ) (hm : length masks ≡ 2 * n) (ha : all (fits (p .A)) (masksOf masks n) ≡ true) where
@@ -107,11 +98,11 @@ module _ (b : List ℕ) (p : Sheet) (d : decode b ≡ decoded p) (n limit : ℕ)
     none-bad : filter (λ i. not (goodRowAt (variables p n) (filled table buf) i)) (upFrom 0 rows) ≡ []
     none-bad =
         ap (λ k. filter (λ i. not (goodRowAt (variables p n) (filled table buf) i)) (upFrom 0 k)) (sym (whole .rows-are))
-        ∙ ap (λ x. filter (λ i. not (goodRowAt (variables p n) x i)) (upFrom 0 (length table))) filled-as
-        ∙ no-bad-row (variables p n) table all-fit sound rest
+        ∙ ap (λ x. filter (λ i. not (goodRowAt (variables p n) x i)) (upFrom 0 (length table))) (filled-as table buf)
+        ∙ no-bad-row (variables p n) table all-fit sound (behind table buf)
 
     table-is : tableOf (filled table buf) rows ≡ table
-    table-is = ap (tableOf (filled table buf)) (sym (whole .rows-are)) ∙ ap (λ x. tableOf x (length table)) filled-as ∙ table-read table all-fit rest
+    table-is = ap (tableOf (filled table buf)) (sym (whole .rows-are)) ∙ filled-read table all-fit buf
 
     -- it is answered by the circuit's value
     pub judged-value : judgeOf b n (compileLeft b n limit buf slice .rows) rows root s masks ≡ Judged.Value (judge p n (compile (theory p n) .table) (compile (theory p n) .root) s (masksOf masks n))
@@ -122,12 +113,97 @@ module _ (b : List ℕ) (p : Sheet) (d : decode b ≡ decoded p) (n limit : ℕ)
         ∙ (λ i. judgedBy (good i) (none-bad i) (judge p n (table-is i) (sym (whole .root-is) i) s (masksOf masks n)))
 
     -- demand 3, from the bytes lent to the bytes read
-    pub demand3-called : (judgeOf b n (compileLeft b n limit buf slice .rows) rows root s masks ≡ Judged.Value true)
-        ↔ ((isStart p s ≡ true) × ((σ : List ℕ) × (entriesFit p σ ≡ true) × (masksOf masks n ≡ map maskOf σ) × (reaches p σ s ≡ true)))
+    pub demand3-called : judgeOf b n (compileLeft b n limit buf slice .rows) rows root s masks ≡ Judged.Value (leads p s (masksOf masks n))
     unfolding masksOf fits
-    demand3-called =
-        let j = serial p sheet-fine s hs (masksOf masks n) ha n (length-map (upFrom 0 n) (λ i. word masks (2 * i)) ∙ length-count n 0) in
-        let v : Bool = judge p n table (compile (theory p n) .root) s (masksOf masks n) in (
-          λ h. let g : Judged.Value v ≡ Judged.Value true = sym judged-value ∙ h in j .0 (value-same v true g),
-          λ x. judged-value ∙ ap Judged.Value (j .1 x),
-        )
+    demand3-called = judged-value ∙ ap Judged.Value (judge-leads p sheet-fine s hs (masksOf masks n) ha n (length-map (upFrom 0 n) (λ i. word masks (2 * i)) ∙ length-count n 0))
+
+-- only a whole circuit has code 0
+fault-not-0 : (f : Fault) → faultCode f ≡ 0 → ⊥
+fault-not-0 Fault.Unmarked h = omega arith
+fault-not-0 Fault.Unbounded h = omega arith
+fault-not-0 Fault.Disagrees h = omega arith
+fault-not-0 (Fault.BadRow o) h = omega arith
+fault-not-0 Fault.ShortSchedule h = omega arith
+fault-not-0 Fault.NoStart h = omega arith
+fault-not-0 Fault.BadCall h = omega arith
+fault-not-0 (Fault.BadTable i) h = omega arith
+
+code-0 : (a : Compiled) → compileCode a ≡ 0 → (e : ℕ) × (rows : ℕ) × (root : ℕ) × (a ≡ Compiled.Answered (Built.Whole e rows root))
+code-0 (Compiled.Refused f) h = absurd (fault-not-0 f h)
+code-0 (Compiled.Answered Built.TooMuch) h = absurd (omega arith)
+code-0 (Compiled.Answered (Built.NoRoom e)) h = absurd (omega arith)
+code-0 (Compiled.Answered (Built.Whole e rows root)) h = (e, rows, root, refl)
+
+one-or-0 : (v : Bool) → cond v 1 0 < 4294967296
+one-or-0 true = omega arith
+one-or-0 false = omega arith
+
+-- a call of compile that returned 0, with an answer slice for its five numbers
+module _ (b : List ℕ) (n limit : ℕ) (buf slice : List ℕ) (wide : 20 ≤ length slice) (zero : compileLeft b n limit buf slice .code ≡ 0) where
+  whole-0 : (e : ℕ) × (rows : ℕ) × (root : ℕ) × (compileOf b n limit (room buf) ≡ Compiled.Answered (Built.Whole e rows root))
+  unfolding compileLeft
+  whole-0 = code-0 (compileOf b n limit (room buf)) zero
+
+  -- had a well-formed sheet and a horizon up to 8
+  pub accepted-0 : (p : Sheet) × (decode b ≡ decoded p) × (n ≤ 8)
+  unfolding compileOf
+  accepted-0 = by-decoded (decode b) refl
+    where
+      by-decoded : (x : Decoded) → decode b ≡ x → (p : Sheet) × (decode b ≡ decoded p) × (n ≤ 8)
+      by-decoded (refused f) d =
+          let g : Compiled.Refused f ≡ Compiled.Answered (Built.Whole (whole-0 .0) (whole-0 .1) (whole-0 .2)) = sym (ap (onSheet Compiled.Refused (compileSheet n limit (room buf))) d) ∙ whole-0 .3 in
+          let z : _≡_ {A = ℕ} 0 1 = cc in absurd (omega arith)
+      by-decoded (decoded p) d = (p, d, horizon b p d n limit buf slice (whole-0 .0) (whole-0 .1) (whole-0 .2) (whole-0 .3))
+
+  -- and judge, called with the rows that it left and the count and root that it told, answers 0 and demand 3's sentence
+  module _ (p : Sheet) (d : decode b ≡ decoded p) (s : ℕ) (hs : s < 2 ^ p .F) (masks : List ℕ) (hm : length masks ≡ 2 * n) (ha : all (fits (p .A)) (masksOf masks n) ≡ true)
+      (answer : List ℕ) (room-for-2 : 8 ≤ length answer) where
+    abbrev compiled-left : LeftRows
+    compiled-left = compileLeft b n limit buf slice
+
+    abbrev judged-left : Left
+    judged-left = judgeLeft b n (compiled-left .rows) (toldAt (compiled-left .answer) 3) (toldAt (compiled-left .answer) 4) s masks answer
+
+    answer-is : compiled-left .answer ≡ told (0 ∷ 0 ∷ whole-0 .0 ∷ whole-0 .1 ∷ whole-0 .2 ∷ []) slice
+    unfolding compileLeft
+    answer-is = ap (λ a. told (compileNumbers n a) slice) (whole-0 .3)
+
+    small : (whole-0 .1 ≤ 65536) × (whole-0 .2 < 65536)
+    small =
+        let w = whole b p d n limit buf slice (whole-0 .0) (whole-0 .1) (whole-0 .2) (whole-0 .3) in
+        let l = root-low b p d n limit buf slice (whole-0 .0) (whole-0 .1) (whole-0 .2) (whole-0 .3) in
+        let a = w .rows-are in
+        let r = w .root-is in
+        let k = w .within-room in
+        let m = room-most buf in
+        (omega arith, omega arith)
+
+    count-told : toldAt (compiled-left .answer) 3 ≡ whole-0 .1
+    count-told = let h = small .0 in ap (λ x. toldAt x 3) answer-is ∙ told-read (0 ∷ 0 ∷ whole-0 .0 ∷ whole-0 .1 ∷ whole-0 .2 ∷ []) slice 3 (omega arith) wide (omega arith)
+
+    root-told : toldAt (compiled-left .answer) 4 ≡ whole-0 .2
+    root-told = let h = small .1 in ap (λ x. toldAt x 4) answer-is ∙ told-read (0 ∷ 0 ∷ whole-0 .0 ∷ whole-0 .1 ∷ whole-0 .2 ∷ []) slice 4 (omega arith) wide (omega arith)
+
+    called : judgeOf b n (compiled-left .rows) (toldAt (compiled-left .answer) 3) (toldAt (compiled-left .answer) 4) s masks ≡ Judged.Value (leads p s (masksOf masks n))
+    called = (λ i. judgeOf b n (compiled-left .rows) (count-told i) (root-told i) s masks) ∙ demand3-called b p d n limit buf slice (whole-0 .0) (whole-0 .1) (whole-0 .2) (whole-0 .3) s hs masks hm ha
+
+    pub demand3-left : (judged-left .code ≡ 0) × (toldAt (judged-left .answer) 1 ≡ cond (leads p s (masksOf masks n)) 1 0)
+    unfolding judgeLeft
+    demand3-left = (
+      ap judgeCode called,
+      ap (λ a. toldAt (told (judgeNumbers a) answer) 1) called ∙ told-read (0 ∷ cond (leads p s (masksOf masks n)) 1 0 ∷ []) answer 1 (omega arith) room-for-2 (one-or-0 (leads p s (masksOf masks n))),
+    )
+
+-- the run in demand 3's sentence is the one that run answers: its last number is the goal as 1 or 0
+module _ (b : List ℕ) (p : Sheet) (d : decode b ≡ decoded p) (s : ℕ) (hs : s < 2 ^ p .F) (σ : List ℕ) (most : length σ ≤ 8) (fit : entriesFit p σ ≡ true) where
+  run-went : runOf b s σ ≡ Ended.Went (run p s σ .done) (run p s σ .state) (reaches p σ s)
+  unfolding runOf goodRun fits reaches
+  run-went = ap (onSheet Ended.Refused (runSheet s σ)) d ∙ rw (lt-ltb s (2 ^ p .F) hs, le-leb (length σ) 8 most, fit)
+
+  pub run-goal : (answer : List ℕ) → 16 ≤ length answer → (runLeft b s σ answer .code ≡ 0) × (toldAt (runLeft b s σ answer .answer) 3 ≡ cond (reaches p σ s) 1 0)
+  unfolding runLeft
+  run-goal answer wide = (
+    ap runCode run-went,
+    ap (λ a. toldAt (told (runNumbers a) answer) 3) run-went
+        ∙ told-read (0 ∷ run p s σ .done ∷ run p s σ .state ∷ cond (reaches p σ s) 1 0 ∷ []) answer 3 (omega arith) wide (one-or-0 (reaches p σ s)),
+  )

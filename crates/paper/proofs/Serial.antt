@@ -1,20 +1,21 @@
 -- The serial mode: every pair of different actions is excluded, so a set is an entry of a schedule, and the run is document 01's. Assumes nothing.
 use mathlib.Core.Path.{_≡_, refl, sym, ap, _∙_, subst}
+use mathlib.Core.Logic.{_↔_}
 use mathlib.Core.Bool.{Bool, true, false, not, _&&_, _||_}
 use mathlib.Core.List.{List, [], _∷_, map}
 use Prim.Native.Nat.{ℕ, zero, suc, _+_, _-_, _^_, _≤_, _<_}
 use native.Mathlib.Omega.{arith}
 use lib.Dec.{eqb, ltb, leb}
 use lib.Pow.{pow-pos, pow-lt}
-use borrow.Author.Tests.{eqb-true, eqb-false, eq-eqb, ne-eqb, lt-ltb}
+use borrow.Author.Tests.{eqb-true, eqb-false, eq-eqb, ne-eqb, lt-ltb, ltb-true, ltb-false, le-leb, leb-true, leb-false}
 use Rattle.paper.specs.declared.Stepped.{Stepped}
 use Rattle.paper.specs.declared.Stepped.the-variants.{Ran, NeedUnmet, Clashed}
 use Rattle.paper.specs.Lists.{all, upFrom}
 use Rattle.paper.specs.Counting.{bit, allBelow, someBelow}
-use Rattle.paper.specs.Sheet.{Rule, Sheet, isGoal, Fine}
+use Rattle.paper.specs.Sheet.{Rule, Sheet, isStart, isGoal, Fine}
 use Rattle.paper.specs.Step.{meets, needOf, firing, sets1, sets0, clash, applied, stepped, act, step, onward, runFrom, run, reaches, ruleOf, entriesFit}
 use Rattle.paper.specs.Clauses.{everyPair}
-use Rattle.paper.specs.Sets.{needsMet, fires, firingSet, actSet, thenPass, reachesSets, apartSet, maskOf}
+use Rattle.paper.specs.Sets.{needsMet, fires, firingSet, actSet, thenPass, reachesSets, apartSet, Good, maskOf, atMostOne, entryBelow, scheduleOf, leads}
 use Rattle.paper.proofs.Basic.{never, and-i, and-e, by, not-true, eqb-same}
 use Rattle.paper.proofs.Lists.{filter-below, filter-none, bool-same, imp-e, imp-i, below-at, below-i, some-w, some-i, and-nil}
 use Rattle.paper.proofs.OneStep.{rule-acts}
@@ -97,7 +98,7 @@ unfolding runFrom reachesSets entriesFit
 run-eq p fine [] d s h l = refl
 run-eq p fine (e ∷ σ) d s h l =
     let x = and-e (leb e (p .A)) (entriesFit p σ) h in
-    rw (entry-eq p fine e s (borrow.Author.Tests.leb-true e (p .A) (x .0)) l)
+    rw (entry-eq p fine e s (leb-true e (p .A) (x .0)) l)
     (cases (step p e s) (step-bounded p e s l) (λ t b. run-eq p fine σ (d + 1) t (x .1) b))
   where
     cases : (st : Stepped) → Bounded (p .F) st →
@@ -117,36 +118,35 @@ pub apart-entry : (p : Sheet) (e : ℕ) → apartSet everyPair p (maskOf e) ≡ 
 unfolding apartSet maskOf
 apart-entry p zero = below-i (p .A) _ (λ a l. below-i (p .A) _ (λ b k. imp-i (ltb a b && true) _ (λ d. rw (bit-nil a))))
 apart-entry p (suc c) = below-i (p .A) _ (λ a l. below-i (p .A) _ (λ b k. imp-i (ltb a b && true) _ (λ d.
-    let q : a < b = borrow.Author.Tests.ltb-true a b (and-e (ltb a b) true d .0) in
+    let q : a < b = ltb-true a b (and-e (ltb a b) true d .0) in
     rw (bit-weight c a, bit-weight c b) (one-off a b c q))))
   where
     one-off : (a b c : ℕ) → a < b → (not (eqb a c) || not (eqb b c)) ≡ true
     one-off a b c q = imp-i (eqb a c) (not (eqb b c)) (λ e. let r : a ≡ c = eqb-true a c e in rw (ne-eqb b c (λ (h : b ≡ c). omega arith)))
+
+two-marked : (p : Sheet) (m : ℕ) → apartSet everyPair p m ≡ true → (a b : ℕ) → a < p .A → b < p .A → a < b → bit m a ≡ true → bit m b ≡ true → ⊥
+unfolding apartSet
+two-marked p m w a b l k h x y =
+    never y (not-true (λ _. never (imp-e (bit m a) (not (bit m b)) (imp-e (ltb a b && true) _ (below-at (p .A) _ (below-at (p .A) _ w a l) b k) (and-i (lt-ltb a b h) refl)) x) (ap not y)))
+
+-- two marked actions are the same
+one-marked : (p : Sheet) (m : ℕ) → apartSet everyPair p m ≡ true → (a b : ℕ) → a < p .A → b < p .A → bit m a ≡ true → bit m b ≡ true → (b ≡ a → ⊥) → ⊥
+one-marked p m w a b l k x y n = by (ltb a b)
+    (λ e. two-marked p m w a b l k (ltb-true a b e) x y)
+    (λ e. two-marked p m w b a k l (let g : b ≤ a = ltb-false a b e in omega arith) y x)
 
 pub entry-of : (p : Sheet) (m : ℕ) → m < 2 ^ p .A → apartSet everyPair p m ≡ true → (e : ℕ) × (leb e (p .A) ≡ true) × (m ≡ maskOf e)
 unfolding apartSet maskOf
 entry-of p m h w = by (someBelow (p .A) (bit m))
     (λ q. some-w (p .A) (bit m) q (λ a l d. (
       suc a,
-      le-leb· (suc a) (p .A) l,
+      le-leb (suc a) (p .A) l,
       bit-ext (p .A) m (2 ^ a) h (pow-lt l) (λ k b.
           by (eqb k a)
           (λ e. ap (bit m) (eqb-true k a e) ∙ d ∙ sym (bit-weight a k ∙ e))
-          (λ e. not-true (λ x. differ a k l b d x (eqb-false k a e)) ∙ sym (bit-weight a k ∙ e))),
+          (λ e. not-true (λ x. one-marked p m w a k l b d x (eqb-false k a e)) ∙ sym (bit-weight a k ∙ e))),
     )))
-    (λ q. (0, le-leb· 0 (p .A) (omega arith), bit-ext (p .A) m 0 h (pow-pos (p .A)) (λ k b. not-true (λ x. never (some-i (p .A) (bit m) k b x) q) ∙ sym (bit-nil k))))
-  where
-    le-leb· : (a b : ℕ) → a ≤ b → leb a b ≡ true
-    le-leb· = borrow.Author.Tests.le-leb
-
-    clear : (a b : ℕ) → a < p .A → b < p .A → a < b → bit m a ≡ true → bit m b ≡ true → ⊥
-    clear a b l k h x y =
-        never y (not-true (λ _. never (imp-e (bit m a) (not (bit m b)) (imp-e (ltb a b && true) _ (below-at (p .A) _ (below-at (p .A) _ w a l) b k) (and-i (lt-ltb a b h) refl)) x) (ap not y)))
-
-    differ : (a k : ℕ) → a < p .A → k < p .A → bit m a ≡ true → bit m k ≡ true → (k ≡ a → ⊥) → ⊥
-    differ a k l b d x n = by (ltb a k)
-        (λ e. clear a k l b (borrow.Author.Tests.ltb-true a k e) d x)
-        (λ e. clear k a b l (let g : k ≤ a = borrow.Author.Tests.ltb-false a k e in omega arith) x d)
+    (λ q. (0, le-leb 0 (p .A) (omega arith), bit-ext (p .A) m 0 h (pow-pos (p .A)) (λ k b. not-true (λ x. never (some-i (p .A) (bit m) k b x) q) ∙ sym (bit-nil k))))
 
 -- a list of such sets is a schedule
 pub schedule-of : (p : Sheet) (ms : List ℕ) → all (λ m. ltb m (2 ^ p .A)) ms ≡ true → all (apartSet everyPair p) ms ≡ true →
@@ -156,10 +156,64 @@ schedule-of p [] h w = ([], refl, refl)
 schedule-of p (m ∷ ms) h w =
     let x = and-e (ltb m (2 ^ p .A)) (all (λ m. ltb m (2 ^ p .A)) ms) h in
     let y = and-e (apartSet everyPair p m) (all (apartSet everyPair p) ms) w in
-    let e = entry-of p m (borrow.Author.Tests.ltb-true m (2 ^ p .A) (x .0)) (y .0) in
+    let e = entry-of p m (ltb-true m (2 ^ p .A) (x .0)) (y .0) in
     let r = schedule-of p ms (x .1) (y .1) in
     (e .0 ∷ r .0, and-i (e .1) (r .1), λ i. e .2 i ∷ r .2 i)
 
 pub apart-schedule : (p : Sheet) (σ : List ℕ) → all (apartSet everyPair p) (map maskOf σ) ≡ true
 apart-schedule p [] = refl
 apart-schedule p (e ∷ σ) = and-i (apart-entry p e) (apart-schedule p σ)
+
+-- ---- demand 3's own words
+pub at-most-one : (p : Sheet) (m : ℕ) → atMostOne p m ≡ apartSet everyPair p m
+unfolding atMostOne apartSet
+at-most-one p m = bool-same (atMostOne p m) (apartSet everyPair p m)
+    (λ e. below-i (p .A) _ (λ a l. below-i (p .A) _ (λ b k. imp-i (ltb a b && true) _ (λ d.
+    let q : a < b = ltb-true a b (and-e (ltb a b) true d .0) in
+    not-both (bit m a) (bit m b) (λ x. let r : a ≡ b = eqb-true a b (imp-e (bit m a && bit m b) (eqb a b) (below-at (p .A) _ (below-at (p .A) _ e a l) b k) x) in omega arith)))))
+    (λ e. below-i (p .A) _ (λ a l. below-i (p .A) _ (λ b k. imp-i (bit m a && bit m b) (eqb a b) (λ d.
+    let x = and-e (bit m a) (bit m b) d in
+    by (eqb a b) (λ y. y) (λ y. absurd (one-marked p m e a b l k (x .0) (x .1) (λ r. eqb-false a b y (sym r))))))))
+  where
+    not-both : (x y : Bool) → ((x && y) ≡ true → ⊥) → (not x || not y) ≡ true
+    not-both true true f = absurd (f refl)
+    not-both true false f = refl
+    not-both false y f = refl
+
+pub entry-back : (A e : ℕ) → e ≤ A → entryBelow A (maskOf e) ≡ e
+unfolding entryBelow maskOf
+entry-back zero zero h = refl
+entry-back zero (suc c) h = absurd (omega arith)
+entry-back (suc a) zero h = rw (bit-nil a) (entry-back a zero (omega arith))
+entry-back (suc a) (suc c) h = by (eqb a c)
+    (λ e. rw (bit-weight c a, e) (ap suc (eqb-true a c e)))
+    (λ e. let w = eqb-false a c e in rw (bit-weight c a, e) (entry-back a (suc c) (less a c h w)))
+  where
+    less : (a c : ℕ) → suc c ≤ suc a → (a ≡ c → ⊥) → suc c ≤ a
+    less a c h w = by (leb (suc c) a) (λ e. leb-true (suc c) a e) (λ e. let g = leb-false (suc c) a e in absurd (w (omega arith)))
+
+schedule-back : (p : Sheet) (σ : List ℕ) → entriesFit p σ ≡ true → scheduleOf p (map maskOf σ) ≡ σ
+unfolding entriesFit
+schedule-back p [] h = refl
+schedule-back p (e ∷ σ) h =
+    let x = and-e (leb e (p .A)) (entriesFit p σ) h in λ i. entry-back (p .A) e (leb-true e (p .A) (x .0)) i ∷ schedule-back p σ (x .1) i
+
+all-at-most-one : (p : Sheet) (ms : List ℕ) → all (atMostOne p) ms ≡ all (apartSet everyPair p) ms
+all-at-most-one p [] = refl
+all-at-most-one p (m ∷ ms) = λ i. at-most-one p m i && all-at-most-one p ms i
+
+-- the masks of a start that leads to the goal, in document 01's words and as sets of actions
+pub leads-good : (p : Sheet) → Fine p → (s : ℕ) → s < 2 ^ p .F → (ms : List ℕ) → all (λ m. ltb m (2 ^ p .A)) ms ≡ true → (leads p s ms ≡ true) ↔ Good everyPair p s ms
+unfolding leads
+leads-good p fine s l ms fit =
+    let same : all (apartSet everyPair p) ms ≡ true → reaches p (scheduleOf p ms) s ≡ reachesSets p ms s = λ a.
+    let o = schedule-of p ms fit a in
+    let σ : List ℕ = o .0 in
+    ap (λ x. reaches p (scheduleOf p x) s) (o .2) ∙ ap (λ x. reaches p x s) (schedule-back p σ (o .1)) ∙ reaches-eq p fine σ s (o .1) l ∙ ap (λ x. reachesSets p x s) (sym (o .2)) in (
+      λ h.
+          let x = and-e (isStart p s) _ h in
+          let y = and-e (all (atMostOne p) ms) _ (x .1) in
+          let a = sym (all-at-most-one p ms) ∙ y .0 in
+          (x .0, a, sym (same a) ∙ y .1),
+      λ g. and-i (g .0) (and-i (all-at-most-one p ms ∙ g .1) (same (g .1) ∙ g .2)),
+    )

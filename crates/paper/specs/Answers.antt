@@ -16,7 +16,7 @@ use Rattle.paper.specs.Lists.{each}
 use Rattle.paper.specs.Sheet.{decode}
 use Rattle.paper.specs.Clauses.{theory}
 use Rattle.paper.specs.Circuit.{Table, compile}
-use Rattle.paper.specs.Operations.{onSheet, bytes4, rowSize, rowBytes, room, checkOf, runOf, compileOf, judgeOf, Outcome, planOf}
+use Rattle.paper.specs.Operations.{onSheet, long, bytes4, rowSize, rowBytes, room, checkOf, runOf, compileOf, judgeOf, Outcome, planOf}
 
 -- ---- refusals: the number, and the place of 4 and 11
 abbrev pub faultCode : Fault → ℕ
@@ -100,6 +100,10 @@ planNumbers (Planned.Found n e k i) = 0 ∷ n ∷ e ∷ k ∷ i ∷ []
 unfoldable pub told : List ℕ → List ℕ → List ℕ
 told [] slice = slice
 told (n ∷ ns) slice = cond (ltb (length slice) 4) slice (bytes4 n ++ told ns (drop 4 slice))
+
+-- number i of an answer slice, counted from 0
+abbrev pub toldAt : List ℕ → ℕ → ℕ
+toldAt slice i = long slice (4 * i)
 
 -- ---- the row buffer
 -- the table, its further rows within room zero; beyond room, and a byte tail shorter than a row, untouched

@@ -2,16 +2,16 @@
 -- Document 01's schedule is the case with at most one action a step.
 -- Assumes nothing.
 use mathlib.Core.Path.{_≡_}
-use mathlib.Core.Bool.{Bool, true, false, not, _&&_, _||_}
+use mathlib.Core.Bool.{Bool, true, false, not, _&&_, _||_, cond}
 use mathlib.Core.List.{List, [], _∷_, map}
 use Prim.Native.Nat.{ℕ, zero, suc, _-_, _^_}
-use lib.Dec.{ltb}
+use lib.Dec.{eqb, ltb}
 use Rattle.paper.specs.declared.Stepped.{Stepped}
 use Rattle.paper.specs.declared.Stepped.the-variants.{Ran, NeedUnmet, Clashed}
 use Rattle.paper.specs.Lists.{all, filter, upFrom}
 use Rattle.paper.specs.Counting.{bit, allBelow}
 use Rattle.paper.specs.Sheet.{Rule, Sheet, isStart, isGoal}
-use Rattle.paper.specs.Step.{meets, needOf, ruleOf, clash, applied, stepped}
+use Rattle.paper.specs.Step.{meets, needOf, ruleOf, clash, applied, stepped, reaches}
 
 -- every action of the set may run
 unfoldable pub needsMet : Sheet → ℕ → ℕ → Bool
@@ -52,7 +52,24 @@ unfoldable pub maskOf : ℕ → ℕ
 maskOf zero = 0
 maskOf (suc a) = 2 ^ a
 
+-- ---- document 01's mode: the actions of a step are an entry of a schedule
+-- no two actions are marked
+unfoldable pub atMostOne : Sheet → ℕ → Bool
+atMostOne p m = allBelow (p .A) (λ a. allBelow (p .A) (λ b. not (bit m a && bit m b) || eqb a b))
+
+-- the entry that a mask marks: the number of its highest action, 0 where it has none
+unfoldable pub entryBelow : ℕ → ℕ → ℕ
+entryBelow zero m = 0
+entryBelow (suc a) m = cond (bit m a) (suc a) (entryBelow a m)
+
+abbrev pub scheduleOf : Sheet → List ℕ → List ℕ
+scheduleOf p ms = map (entryBelow (p .A)) ms
+
+-- demand 3's sentence: the state is a start, no step has two actions, and running the schedule ends in the goal
+unfoldable pub leads : Sheet → ℕ → List ℕ → Bool
+leads p s ms = isStart p s && (all (atMostOne p) ms && reaches p (scheduleOf p ms) s)
+
 -- a proof by computation says `unfolding computed-Sets`, which opens every definition of this module
 unfoldable pub computed-Sets : ℕ
-unfolding needsMet fires firingSet actSet reachesSets apartSet maskOf
+unfolding needsMet fires firingSet actSet reachesSets apartSet maskOf atMostOne entryBelow leads
 computed-Sets = 0
