@@ -57,3 +57,5 @@ pub mod Called
 -- document 01's cases, computed
 pub mod Sheets
 pub mod Cases
+-- document 01's readings that look right, refuted
+pub mod Readings
