@@ -70,6 +70,7 @@ pub fn demand3(
 {
     let mut told = [0u8; 20];
     let compiled = bringup::bringup_compile(sheet, horizon, limit, rows, &mut told);
+    // Count and root are the numbers 3 and 4 of the answer, four bytes each.
     let count = bits::long(&told, 12);
     let root = bits::long(&told, 16);
     let mut answer = [0u8; 8];
