@@ -1,9 +1,9 @@
 -- Demand 3 over what the calls leave: judge, asked about the rows, count and root that an answered compile left, says yes exactly if the state is a start,
 -- no step has two actions, and the run ends in the goal. Assumes nothing.
 use mathlib.Core.Path.{_≡_, refl, sym, ap, _∙_}
-use mathlib.Core.Bool.{Bool, true, false, not, _&&_, cond}
+use mathlib.Core.Bool.{true, cond}
 use mathlib.Core.List.{List, [], _∷_}
-use Prim.Native.Nat.{ℕ, _*_, _/_, _^_, min, _≤_, _<_}
+use Prim.Native.Nat.{ℕ, _*_, _^_, _≤_, _<_}
 use native.Mathlib.Omega.{arith}
 use lib.Dec.{leb}
 use lib.ListN.{length, length-map}
@@ -14,23 +14,22 @@ use Rattle.paper.specs.declared.Judged.{Judged}
 use Rattle.paper.specs.declared.Ended.{Ended}
 use Rattle.paper.specs.declared.Fault.{Fault}
 use Rattle.paper.specs.declared.Fault.the-variants.{BadCall}
-use Rattle.paper.specs.Lists.{all, filter, upFrom}
+use Rattle.paper.specs.Lists.{all, upFrom}
 use Rattle.paper.specs.Sheet.{Sheet, Decoded, refused, decoded, word, fits, decode, Fine}
 use Rattle.paper.specs.Step.{entriesFit, run, reaches}
-use Rattle.paper.specs.Clauses.{variables, theory, everyPair}
+use Rattle.paper.specs.Clauses.{theory}
 use Rattle.paper.specs.Circuit.{Table, compile, builtOf}
-use Rattle.paper.specs.Operations.{onSheet, goodRun, runSheet, runOf, rowSize, room, compileSheet, compileOf, judge, goodRowAt, tableOf, masksOf, goodJudge, judgedBy, judgeSheet, judgeOf}
+use Rattle.paper.specs.Operations.{onSheet, goodRun, runSheet, runOf, room, compileSheet, compileOf, judge, masksOf, goodJudge, judgedBy, judgeSheet, judgeOf}
 use Rattle.paper.specs.Answers.{faultCode, runCode, compileCode, judgeCode, runNumbers, compileNumbers, judgeNumbers, told, toldAt, filled, compileRows, Left, LeftRows, tableFor, runLeft, compileLeft, judgeLeft}
 use Rattle.paper.specs.Sets.{leads}
 use Rattle.paper.specs.Planning.{Answered}
-use Rattle.paper.proofs.Basic.{Every, and-i, and-e, by}
+use Rattle.paper.proofs.Basic.{and-i, by}
 use Rattle.paper.proofs.Decoded.{decoded-fine, length-count}
-use Rattle.paper.proofs.RowTheorem.{Sound}
-use Rattle.paper.proofs.Size.{variables-most}
 use Rattle.paper.proofs.Limits.{answered}
-use Rattle.paper.proofs.Demand3.{taken, judge-leads}
-use Rattle.paper.proofs.Buffers.{filled-length, room-most}
-use Rattle.paper.proofs.ReadBack.{Fits, told-read, sound-fits, behind, filled-as, filled-read, no-bad-row}
+use Rattle.paper.proofs.Demand3.{judge-leads}
+use Rattle.paper.proofs.Buffers.{room-most}
+use Rattle.paper.proofs.ReadBack.{sign-small, told-read}
+use Rattle.paper.proofs.Left.{same-room, root-low, two-rows, within-room, table-is, none-bad}
 
 compiled-whole : (n limit k : ℕ) (p : Sheet) (e rows root : ℕ) → compileSheet n limit k p ≡ Compiled.Answered (Built.Whole e rows root) → (n ≤ 8) × (builtOf limit k (theory p n) ≡ Built.Whole e rows root)
 compiled-whole n limit k p e rows root h = by (leb n 8)
@@ -60,49 +59,16 @@ module _ (b : List ℕ) (p : Sheet) (d : decode b ≡ decoded p) (n limit : ℕ)
   abbrev table : Table
   table = compile (theory p n) .table
 
-  same-room : room (filled table buf) ≡ room buf
-  unfolding room
-  same-room = ap (λ l. min (l / rowSize) 65536) (filled-length table buf (whole .within-room))
-
-  sound : Sound (λ y. leb 1 y && leb y (variables p n)) table
-  unfolding theory
-  sound = taken everyPair p sheet-fine n .0
-
-  root-low : compile (theory p n) .root < length table
-  unfolding theory
-  root-low = taken everyPair p sheet-fine n .1
-
-  two-rows : 2 ≤ length table
-  two-rows = let k = ap length (sound .start .1) in omega arith
-
-  all-fit : Every Fits table
-  unfolding room
-  all-fit =
-      let v = variables-most p sheet-fine n horizon in
-      let r = whole .within-room in
-      sound-fits (λ y. leb 1 y && leb y (variables p n)) (λ y h. let k = leb-true y (variables p n) (and-e (leb 1 y) (leb y (variables p n)) h .1) in omega arith) table (omega arith) sound
-
   -- a call of judge that its checks let through
   module _ (s : ℕ) (hs : s < 2 ^ p .F) (masks : List ℕ) (hm : length masks ≡ 2 * n) (ha : all (fits (p .A)) (masksOf masks n) ≡ true) where
     good : goodJudge p n (filled table buf) rows root s masks ≡ true
     unfolding goodJudge fits
     good =
-        let a = whole .rows-are in
-        let r = whole .root-is in
-        let k = whole .within-room in
-        let l = root-low in
-        let w = two-rows in
-        let q = same-room in
-        and-i (lt-ltb s (2 ^ p .F) hs) (and-i (le-leb n 8 horizon) (and-i (eq-eqb (length masks) (2 * n) hm) (and-i ha (and-i (le-leb 2 rows (omega arith)) (and-i (le-leb rows (room (filled table buf)) (omega arith)) (lt-ltb root rows (omega arith)))))))
-
-    none-bad : filter (λ i. not (goodRowAt (variables p n) (filled table buf) i)) (upFrom 0 rows) ≡ []
-    none-bad =
-        ap (λ k. filter (λ i. not (goodRowAt (variables p n) (filled table buf) i)) (upFrom 0 k)) (sym (whole .rows-are))
-        ∙ ap (λ x. filter (λ i. not (goodRowAt (variables p n) x i)) (upFrom 0 (length table))) (filled-as table buf)
-        ∙ no-bad-row (variables p n) table all-fit sound (behind table buf)
-
-    table-is : tableOf (filled table buf) rows ≡ table
-    table-is = ap (tableOf (filled table buf)) (sym (whole .rows-are)) ∙ filled-read table all-fit buf
+        let l = root-low p sheet-fine n horizon limit buf e rows root whole in
+        let w = two-rows p sheet-fine n horizon limit buf e rows root whole in
+        let k = within-room p sheet-fine n horizon limit buf e rows root whole in
+        let q = same-room p sheet-fine n horizon limit buf e rows root whole in
+        and-i (lt-ltb s (2 ^ p .F) hs) (and-i (le-leb n 8 horizon) (and-i (eq-eqb (length masks) (2 * n) hm) (and-i ha (and-i (le-leb 2 rows w) (and-i (le-leb rows (room (filled table buf)) (omega arith)) (lt-ltb root rows l))))))
 
     -- it is answered by the circuit's value
     pub judged-value : judgeOf b n (compileLeft b n limit buf slice .rows) rows root s masks ≡ Judged.Value (judge p n (compile (theory p n) .table) (compile (theory p n) .root) s (masksOf masks n))
@@ -110,7 +76,7 @@ module _ (b : List ℕ) (p : Sheet) (d : decode b ≡ decoded p) (n limit : ℕ)
     judged-value =
         ap (λ x. onSheet Judged.Refused (judgeSheet n (compileLeft b n limit buf slice .rows) rows root s masks) x) d
         ∙ ap (λ x. judgeSheet n x rows root s masks p) left-rows
-        ∙ (λ i. judgedBy (good i) (none-bad i) (judge p n (table-is i) (sym (whole .root-is) i) s (masksOf masks n)))
+        ∙ (λ i. judgedBy (good i) (none-bad p sheet-fine n horizon limit buf e rows root whole i) (judge p n (table-is p sheet-fine n horizon limit buf e rows root whole i) (sym (whole .root-is) i) s (masksOf masks n)))
 
     -- demand 3, from the bytes lent to the bytes read
     pub demand3-called : judgeOf b n (compileLeft b n limit buf slice .rows) rows root s masks ≡ Judged.Value (leads p s (masksOf masks n))
@@ -133,10 +99,6 @@ code-0 (Compiled.Refused f) h = absurd (fault-not-0 f h)
 code-0 (Compiled.Answered Built.TooMuch) h = absurd (omega arith)
 code-0 (Compiled.Answered (Built.NoRoom e)) h = absurd (omega arith)
 code-0 (Compiled.Answered (Built.Whole e rows root)) h = (e, rows, root, refl)
-
-one-or-0 : (v : Bool) → cond v 1 0 < 4294967296
-one-or-0 true = omega arith
-one-or-0 false = omega arith
 
 -- a call of compile that returned 0, with an answer slice for its five numbers
 module _ (b : List ℕ) (n limit : ℕ) (buf slice : List ℕ) (wide : 20 ≤ length slice) (zero : compileLeft b n limit buf slice .code ≡ 0) where
@@ -171,10 +133,9 @@ module _ (b : List ℕ) (n limit : ℕ) (buf slice : List ℕ) (wide : 20 ≤ le
     small : (whole-0 .1 ≤ 65536) × (whole-0 .2 < 65536)
     small =
         let w = whole b p d n limit buf slice (whole-0 .0) (whole-0 .1) (whole-0 .2) (whole-0 .3) in
-        let l = root-low b p d n limit buf slice (whole-0 .0) (whole-0 .1) (whole-0 .2) (whole-0 .3) in
-        let a = w .rows-are in
-        let r = w .root-is in
-        let k = w .within-room in
+        let h = horizon b p d n limit buf slice (whole-0 .0) (whole-0 .1) (whole-0 .2) (whole-0 .3) in
+        let l = root-low p (decoded-fine b p d) n h limit buf (whole-0 .0) (whole-0 .1) (whole-0 .2) w in
+        let k = within-room p (decoded-fine b p d) n h limit buf (whole-0 .0) (whole-0 .1) (whole-0 .2) w in
         let m = room-most buf in
         (omega arith, omega arith)
 
@@ -191,7 +152,7 @@ module _ (b : List ℕ) (n limit : ℕ) (buf slice : List ℕ) (wide : 20 ≤ le
     unfolding judgeLeft
     demand3-left = (
       ap judgeCode called,
-      ap (λ a. toldAt (told (judgeNumbers a) answer) 1) called ∙ told-read (0 ∷ cond (leads p s (masksOf masks n)) 1 0 ∷ []) answer 1 (omega arith) room-for-2 (one-or-0 (leads p s (masksOf masks n))),
+      ap (λ a. toldAt (told (judgeNumbers a) answer) 1) called ∙ told-read (0 ∷ cond (leads p s (masksOf masks n)) 1 0 ∷ []) answer 1 (omega arith) room-for-2 (sign-small (leads p s (masksOf masks n))),
     )
 
 -- the run in demand 3's sentence is the one that run answers: its last number is the goal as 1 or 0
@@ -205,5 +166,5 @@ module _ (b : List ℕ) (p : Sheet) (d : decode b ≡ decoded p) (s : ℕ) (hs :
   run-goal answer wide = (
     ap runCode run-went,
     ap (λ a. toldAt (told (runNumbers a) answer) 3) run-went
-        ∙ told-read (0 ∷ run p s σ .done ∷ run p s σ .state ∷ cond (reaches p σ s) 1 0 ∷ []) answer 3 (omega arith) wide (one-or-0 (reaches p σ s)),
+        ∙ told-read (0 ∷ run p s σ .done ∷ run p s σ .state ∷ cond (reaches p σ s) 1 0 ∷ []) answer 3 (omega arith) wide (sign-small (reaches p σ s)),
   )

@@ -13,9 +13,10 @@ use Rattle.paper.specs.Clauses.{Clause, Clauses, theory, yes·, no·, co
 use Rattle.paper.specs.Circuit.{computed-Circuit}
 use Rattle.paper.specs.Operations.{onSheet, bytes4, checkOf, runOf, compileOf, judgeOf, Outcome, planOf, computed-Operations}
 use Rattle.paper.specs.Answers.{checkCode, checkNumbers, runCode, runNumbers, compileCode, compileNumbers, judgeCode, judgeNumbers, planCode, planNumbers, Left, LeftRows, LeftPlan, told, checkLeft, compileLeft, planLeft, computed-Answers}
+use Rattle.paper.specs.Program.{decimal, printed, computed-Program}
 use Rattle.paper.proofs.Sheets.{D, need, rule, clause, sheet, largest, like-D, one-action, goals}
 
--- what is asked: bytes as they are; the clauses of T(P); the five operations; what buffers hold after a call
+-- what is asked: bytes as they are; the clauses of T(P); the five operations; what buffers hold after a call; a number in decimal; what the program prints
 pub data Ask : Type 0 where
   bytes : List ℕ → Ask
   clauses : List ℕ → ℕ → Ask
@@ -28,6 +29,8 @@ pub data Ask : Type 0 where
   rows-after : List ℕ → ℕ → ℕ → List ℕ → Ask
   plan-after : List ℕ → ℕ → List ℕ → List ℕ → Ask
   schedule-after : List ℕ → ℕ → List ℕ → List ℕ → Ask
+  number : ℕ → Ask
+  print : List ℕ → Ask
 
 -- a literal as 2 * variable, 1 more where it is negative; 0 ends a clause
 abbrev ofLit : Lit → ℕ
@@ -49,6 +52,8 @@ reply (slice-after b slice) = checkLeft b slice .answer
 reply (rows-after b n limit buf) = compileLeft b n limit buf [] .rows
 reply (plan-after b limit buf sch) = let o = planLeft b limit buf sch [] in o .rows ++ o .schedule
 reply (schedule-after b limit buf sch) = planLeft b limit buf sch [] .schedule
+reply (number n) = decimal n
+reply (print b) = printed b
 
 pub record Case : Type 0 where
   pub ask : Ask
@@ -297,9 +302,30 @@ right-buffers : Right buffers
 unfolding sheet largest like-D one-action goals computed-Lists computed-Counting computed-Sheet computed-Step computed-Clauses computed-Circuit computed-Operations computed-Answers
 right-buffers = (refl, (refl, (refl, (refl, (refl, (refl, (refl, (refl, (refl, (refl, (refl, (refl, (refl, (refl, (refl, (refl, (refl, (refl, (refl, (refl, (refl, tt)))))))))))))))))))))
 
+-- what the program prints, in bytes, and numbers in decimal
+abbrev pub lines : List Case
+lines =
+    (print D gives 48 ∷ 32 ∷ 48 ∷ 32 ∷ 50 ∷ 32 ∷ 49 ∷ 32 ∷ 50 ∷ 10 ∷ [])
+    ∷ (print (set D 16 4) gives 52 ∷ 32 ∷ 56 ∷ 32 ∷ 48 ∷ 10 ∷ [])
+    ∷ (print (like-D [] 1) gives 57 ∷ 32 ∷ 48 ∷ 32 ∷ 49 ∷ 10 ∷ [])
+    ∷ (print (like-D (clause 2 0 ∷ []) 2) gives 48 ∷ 32 ∷ 48 ∷ 32 ∷ 48 ∷ 10 ∷ [])
+    ∷ (print [] gives 49 ∷ 32 ∷ 48 ∷ 32 ∷ 48 ∷ 10 ∷ [])
+    ∷ (print (replicate 4608 0) gives 49 ∷ 32 ∷ 48 ∷ 32 ∷ 48 ∷ 10 ∷ [])
+    ∷ (print (replicate 4609 0) gives 51 ∷ 32 ∷ 48 ∷ 32 ∷ 48 ∷ 10 ∷ [])
+    ∷ (number 0 gives 48 ∷ [])
+    ∷ (number 9 gives 57 ∷ [])
+    ∷ (number 10 gives 49 ∷ 48 ∷ [])
+    ∷ (number 100 gives 49 ∷ 48 ∷ 48 ∷ [])
+    ∷ (number 4294967295 gives 52 ∷ 50 ∷ 57 ∷ 52 ∷ 57 ∷ 54 ∷ 55 ∷ 50 ∷ 57 ∷ 53 ∷ [])
+    ∷ []
+
+right-lines : Right lines
+unfolding sheet largest like-D one-action goals computed-Lists computed-Counting computed-Sheet computed-Step computed-Clauses computed-Circuit computed-Operations computed-Answers computed-Program
+right-lines = (refl, (refl, (refl, (refl, (refl, (refl, (refl, (refl, (refl, (refl, (refl, (refl, tt))))))))))))
+
 -- the whole table
 abbrev pub table : List (List Case)
-table = plans ∷ runs ∷ circuits ∷ limits ∷ sheets ∷ theories ∷ judged ∷ buffers ∷ []
+table = plans ∷ runs ∷ circuits ∷ limits ∷ sheets ∷ theories ∷ judged ∷ buffers ∷ lines ∷ []
 
 abbrev pub RightAll : List (List Case) → Type 0
 RightAll [] = Unit {0}
@@ -307,4 +333,4 @@ RightAll (g ∷ gs) = Right g × RightAll gs
 
 -- THE CASES
 pub cases : RightAll table
-cases = (right-plans, (right-runs, (right-circuits, (right-limits, (right-sheets, (right-theories, (right-judged, (right-buffers, tt))))))))
+cases = (right-plans, (right-runs, (right-circuits, (right-limits, (right-sheets, (right-theories, (right-judged, (right-buffers, (right-lines, tt)))))))))

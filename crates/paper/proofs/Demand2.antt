@@ -60,31 +60,39 @@ unfolding countBelow
 count-none zero f h m l = absurd (omega arith)
 count-none (suc n) f h m l = below-suc (λ i. f i ≡ false) n m l (count-none n f (omega arith) m) (worth-none (f n) (omega arith))
 
+-- a sheet that was accepted: 5, 6, or the horizons from 0 on
+module _ (p : Sheet) (limit k bytes : ℕ) where
+  pub sheet-short : bytes < p .H → planSheet limit k bytes p ≡ stopped (Planned.Refused ShortSchedule)
+  sheet-short l = rw (lt-leb (p .H) bytes l)
+
+  pub sheet-no-start : p .H ≤ bytes → startCount p ≡ 0 → planSheet limit k bytes p ≡ stopped (Planned.Refused NoStart)
+  sheet-no-start l z = rw (le-leb (p .H) bytes l, z)
+
+  pub sheet-started : p .H ≤ bytes → 0 < startCount p → planSheet limit k bytes p ≡ planFrom p limit k (p .H) 0
+  sheet-started l s = rw (le-leb (p .H) bytes l) (planned-as (startCount p) (planFrom p limit k (p .H) 0) s)
+    where
+      planned-as : (n : ℕ) (o : Outcome) → 0 < n → planStarts n o ≡ o
+      planned-as zero o h = absurd (omega arith)
+      planned-as (suc n) o h = refl
+
+pub plan-decoded : (b : List ℕ) (p : Sheet) → decode b ≡ decoded p → (limit k bytes : ℕ) → planOf b limit k bytes ≡ planSheet limit k bytes p
+unfolding planOf
+plan-decoded b p d limit k bytes = ap (onSheet (λ f. stopped (Planned.Refused f)) (planSheet limit k bytes)) d
+
 -- 5: the schedule buffer is shorter than H
 pub plan-short : (b : List ℕ) (p : Sheet) → decode b ≡ decoded p → (limit k bytes : ℕ) → bytes < p .H → planOf b limit k bytes ≡ stopped (Planned.Refused ShortSchedule)
-unfolding planOf
-plan-short b p d limit k bytes l = ap (onSheet (λ f. stopped (Planned.Refused f)) (planSheet limit k bytes)) d ∙ rw (lt-leb (p .H) bytes l)
+plan-short b p d limit k bytes l = plan-decoded b p d limit k bytes ∙ sheet-short p limit k bytes l
 
 -- 6: no state is a start
 pub plan-no-start : (b : List ℕ) (p : Sheet) → decode b ≡ decoded p → (limit k bytes : ℕ) → p .H ≤ bytes → startCount p ≡ 0
     → (planOf b limit k bytes ≡ stopped (Planned.Refused NoStart)) × ((s : ℕ) → s < 2 ^ p .F → isStart p s ≡ false)
-unfolding planOf startCount
-plan-no-start b p d limit k bytes l z =
-    (ap (onSheet (λ f. stopped (Planned.Refused f)) (planSheet limit k bytes)) d ∙ rw (le-leb (p .H) bytes l, z), count-none (2 ^ p .F) (isStart p) z)
-
-planned-as : (n : ℕ) (o : Outcome) → 0 < n → planStarts n o ≡ o
-planned-as zero o h = absurd (omega arith)
-planned-as (suc n) o h = refl
-
-plan-started : (b : List ℕ) (p : Sheet) → decode b ≡ decoded p → (limit k bytes : ℕ) → p .H ≤ bytes → 0 < startCount p → planOf b limit k bytes ≡ planFrom p limit k (p .H) 0
-unfolding planOf
-plan-started b p d limit k bytes l s =
-    ap (onSheet (λ f. stopped (Planned.Refused f)) (planSheet limit k bytes)) d ∙ rw (le-leb (p .H) bytes l) (planned-as (startCount p) (planFrom p limit k (p .H) 0) s)
+unfolding startCount
+plan-no-start b p d limit k bytes l z = (plan-decoded b p d limit k bytes ∙ sheet-no-start p limit k bytes l z, count-none (2 ^ p .F) (isStart p) z)
 
 -- demand 2: with a start, the answer is 7, 8, 9 or 0, and says what it is to say
 pub demand2 : (b : List ℕ) (p : Sheet) → decode b ≡ decoded p → (limit k bytes : ℕ) → p .H ≤ bytes → 0 < startCount p → SaysOf p limit k (planOf b limit k bytes)
 demand2 b p d limit k bytes l s =
-    subst (SaysOf p limit k) (sym (plan-started b p d limit k bytes l s)) (from-says p limit k (p .H) 0 (omega arith) (λ m h. absurd (omega arith)))
+    subst (SaysOf p limit k) (sym (plan-decoded b p d limit k bytes ∙ sheet-started p limit k bytes l s)) (from-says p limit k (p .H) 0 (omega arith) (λ m h. absurd (omega arith)))
 
 -- ---- what demand 2 says has one answer
 module _ (p : Sheet) (limit k : ℕ) where

@@ -53,6 +53,7 @@ pub mod Demand2
 pub mod Buffers
 pub mod Permitted
 pub mod ReadBack
+pub mod Left
 pub mod Called
 -- document 01's cases, computed
 pub mod Sheets

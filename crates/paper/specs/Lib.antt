@@ -7,6 +7,7 @@ pub mod Clauses
 pub mod Circuit
 pub mod Operations
 pub mod Answers
+pub mod Program
 -- the words of demands 2 and 3
 pub mod Planning
 pub mod Sets
