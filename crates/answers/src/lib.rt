@@ -5,8 +5,9 @@ use paper::Compiled;
 use paper::Ended;
 use paper::Fault;
 use paper::Judged;
+use paper::Planned;
 ghost use mathlib.Core.Path.{_≡_};
-ghost use Rattle.paper.specs.Answers.{faultCode, faultPlace, checkCode, checkNumbers, runCode, runNumbers, compileCode, compileNumbers, judgeCode, judgeNumbers};
+ghost use Rattle.paper.specs.Answers.{faultCode, faultPlace, checkCode, checkNumbers, runCode, runNumbers, compileCode, compileNumbers, judgeCode, judgeNumbers, planCode, planNumbers};
 
 // A refusal's number.
 fn fault_code(f: Fault) -> u32
@@ -133,5 +134,30 @@ pub fn judge_numbers(j: Judged) -> [u32; 2]
     match j {
         Judged::Refused(f) => [fault_place(f), 0],
         Judged::Value(v) => [0, bits::one_if(v)],
+    }
+}
+
+pub fn plan_code(p: Planned) -> u32
+    ensures { λ r. ⌜ r ≡ planCode p ⌝ }
+{
+    match p {
+        Planned::Refused(f) => fault_code(f),
+        Planned::TooMuch(_) => 7,
+        Planned::NoRoom(_, _) => 8,
+        Planned::NoPlan(_, _, _, _) => 9,
+        Planned::Found(_, _, _, _) => 0,
+    }
+}
+
+// Place, horizon, effort, rows and root.
+pub fn plan_numbers(p: Planned) -> [u32; 5]
+    ensures { λ r. ⌜ r ≡ planNumbers p ⌝ }
+{
+    match p {
+        Planned::Refused(f) => [fault_place(f), 0, 0, 0, 0],
+        Planned::TooMuch(n) => [0, n, 0, 0, 0],
+        Planned::NoRoom(n, effort) => [0, n, effort, 0, 0],
+        Planned::NoPlan(n, effort, rows, root) => [0, n, effort, rows, root],
+        Planned::Found(n, effort, rows, root) => [0, n, effort, rows, root],
     }
 }

@@ -1,6 +1,6 @@
 // The operations for C: numbers and byte slices in; the code returned, the numbers written into the answer slice.
 ghost use mathlib.Core.Path.{_≡_};
-ghost use Rattle.paper.specs.Answers.{checkLeft, runLeft, compileLeft, judgeLeft};
+ghost use Rattle.paper.specs.Answers.{checkLeft, runLeft, compileLeft, judgeLeft, planLeft};
 
 // Check: place and count into the answer.
 #[no_mangle]
@@ -64,4 +64,24 @@ pub extern "C" fn bringup_judge(
     let numbers = answers::judge_numbers(j);
     bits::tell(answer, &numbers);
     answers::judge_code(j)
+}
+
+// Plan: place, horizon, effort, rows and root into the answer, the last circuit into the rows, on 0 the entries into the schedule.
+#[no_mangle]
+pub extern "C" fn bringup_plan(
+    sheet: &[u8],
+    limit: u32,
+    rows: &mut [u8],
+    schedule: &mut [u8],
+    answer: &mut [u8],
+) -> u32
+    ensures code { λ r. ⌜ r ≡ planLeft (now (sheet .entry)) limit (now (rows .entry)) (now (schedule .entry)) (now (answer .entry)) .code ⌝ }
+    ensures written { λ r. ⌜ now (answer .exit) ≡ planLeft (now (sheet .entry)) limit (now (rows .entry)) (now (schedule .entry)) (now (answer .entry)) .answer ⌝ }
+    ensures filled { λ r. ⌜ now (rows .exit) ≡ planLeft (now (sheet .entry)) limit (now (rows .entry)) (now (schedule .entry)) (now (answer .entry)) .rows ⌝ }
+    ensures scheduled { λ r. ⌜ now (schedule .exit) ≡ planLeft (now (sheet .entry)) limit (now (rows .entry)) (now (schedule .entry)) (now (answer .entry)) .schedule ⌝ }
+{
+    let p = plan::plan(sheet, limit, rows, schedule);
+    let numbers = answers::plan_numbers(p);
+    bits::tell(answer, &numbers);
+    answers::plan_code(p)
 }
