@@ -1,4 +1,4 @@
-// What is demanded of the circuit, over the promises of the functions that make it: each function here makes their calls and promises what they mean together.
+// What is demanded of the planner and of the circuit, over the promises of the functions that answer: each function here makes their calls and promises what they mean together.
 use paper::Built;
 use paper::Trailer;
 use theory::Filled;
@@ -11,11 +11,12 @@ ghost use Rattle.paper.specs.Sheet as paper;
 ghost use Rattle.paper.specs.Clauses as clauses;
 ghost use Rattle.paper.specs.Circuit as circuit;
 ghost use Rattle.paper.specs.Operations as operation;
-ghost use Rattle.paper.specs.Answers.{compileLeft, compileRows};
+ghost use Rattle.paper.specs.Answers.{compileLeft, compileRows, planLeft};
 ghost use Rattle.sheet.specs.Reading.{Whole};
 ghost use Rattle.theory.specs.Flat.{Stored};
 ghost use Rattle.sets.specs.State as state;
 ghost use Rattle.demands.specs.Demands as spec;
+ghost use Rattle.demands.specs.Plans as plans;
 
 // T(P) is the run: with a state and marks, the clauses in the arrays can be satisfied exactly if the run leads from a start to the goal.
 pub fn theory_is_the_run(
@@ -46,6 +47,33 @@ pub fn circuit_is_the_projection(
     ensures projects { λ r. ⌜ spec.Projects (state.clausesOf (now (literals .entry)) (now (ends .entry))) (now (table .exit)) r ⌝ }
 {
     compile::compile_clauses(literals, ends, table, limit)
+}
+
+// What a call of plan answered: its code, and the numbers behind the place.
+pub struct Told {
+    pub code: u32,
+    pub horizon: u32,
+    pub effort: u32,
+    pub rows: u32,
+    pub root: u32,
+}
+
+// Demand 2: plan any sheet, with any limit and buffers; the answer is the least horizon and the first schedule, or says why there is none.
+pub fn demand2(sheet: &[u8], limit: u32, rows: &mut [u8], schedule: &mut [u8]) -> Told
+    ensures told { λ r. ⌜ r ≡ plans.toldOf (now (sheet .entry)) limit (now (rows .entry)) (now (schedule .entry)) ⌝ }
+    ensures filled { λ r. ⌜ now (rows .exit) ≡ planLeft (now (sheet .entry)) limit (now (rows .entry)) (now (schedule .entry)) spec.twenty .rows ⌝ }
+    ensures scheduled { λ r. ⌜ now (schedule .exit) ≡ planLeft (now (sheet .entry)) limit (now (rows .entry)) (now (schedule .entry)) spec.twenty .schedule ⌝ }
+    ensures demand2 { λ r. ⌜ plans.Demand2 (now (sheet .entry)) limit (operation.room (now (rows .entry))) (length (now (schedule .entry))) r (now (schedule .exit)) ⌝ }
+{
+    let mut told = [0u8; 20];
+    let code = bringup::bringup_plan(sheet, limit, rows, schedule, &mut told);
+    Told {
+        code: code,
+        horizon: bits::long(&told, 4),
+        effort: bits::long(&told, 8),
+        rows: bits::long(&told, 12),
+        root: bits::long(&told, 16),
+    }
 }
 
 // What two calls answered: the code of compile, the code of judge, the value that judge gave.
