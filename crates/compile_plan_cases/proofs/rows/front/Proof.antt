@@ -1,8 +1,8 @@
--- `compile_cases::rows::front` is safe and ends: i nears 0. Assumes nothing.
+-- `compile_plan_cases::rows::front` is safe and ends: i nears 0. Assumes nothing.
 use Prim.Native.Nat.{_≤_}
 use borrow.Author.Needs.{needs}
-use Rattle.compile_cases.proofs.rows.front.Statement.{statement}
-use Rattle.compile_cases.proofs.rows.front.Tie as tie
+use Rattle.compile_plan_cases.proofs.rows.front.Statement.{statement}
+use Rattle.compile_plan_cases.proofs.rows.front.Tie as tie
 
 abbrev Inv-loop : tie.InvT-loop
 Inv-loop bytes n b i₀ i = i ≤ n

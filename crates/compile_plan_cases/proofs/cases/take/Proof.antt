@@ -1,9 +1,9 @@
--- `compile_cases::cases::take` is safe and ends: each number is behind the one before. Assumes nothing.
+-- `compile_plan_cases::cases::take` is safe and ends: each number is behind the one before. Assumes nothing.
 use Prim.Native.Nat.{_-_, _≤_}
 use lib.ListN.{length}
 use borrow.Author.Needs.{needs}
-use Rattle.compile_cases.proofs.cases.take.Statement.{statement}
-use Rattle.compile_cases.proofs.cases.take.Tie as tie
+use Rattle.compile_plan_cases.proofs.cases.take.Statement.{statement}
+use Rattle.compile_plan_cases.proofs.cases.take.Tie as tie
 
 abbrev Inv-loop : tie.InvT-loop
 Inv-loop kind text from given₀ at₀ given at = at ≤ length text

@@ -1,20 +1,22 @@
--- `compile_cases::lines::print_bytes` is safe and ends: i is below 24 and nears it. Assumes nothing.
+-- `compile_plan_cases::lines::print_bytes` is safe and ends: i nears the length. Assumes nothing.
 use Prim.Native.Nat.{_-_}
+use mathlib.Core.Path.{_≡_}
+use lib.ListN.{length}
 use borrow.Author.Needs.{needs}
-use Rattle.compile_cases.proofs.lines.print_bytes.Statement.{statement}
-use Rattle.compile_cases.proofs.lines.print_bytes.Tie as tie
+use Rattle.compile_plan_cases.proofs.lines.print_bytes.Statement.{statement}
+use Rattle.compile_plan_cases.proofs.lines.print_bytes.Tie as tie
 
 abbrev Inv-loop : tie.InvT-loop
-Inv-loop bytes i₀ i = Unit
+Inv-loop bytes i₀ i-end i = i-end ≡ length bytes
 
 abbrev μ-loop : tie.MeasureT-loop
-μ-loop bytes i₀ i = 24 - i
+μ-loop bytes i₀ i-end i = i-end - i
 
 loop-holds : tie.Need-loop-holds Inv-loop μ-loop
 loop-holds c = search needs
 
-element-copy-out-print-byte : tie.Need-element-copy-out-print-byte Inv-loop μ-loop
-element-copy-out-print-byte c = search needs
+shared-slice-read-print-byte : tie.Need-shared-slice-read-print-byte Inv-loop μ-loop
+shared-slice-read-print-byte c = search needs
 
 print-byte-requires : tie.Need-print-byte-requires Inv-loop μ-loop
 print-byte-requires c κs = search needs
@@ -38,7 +40,7 @@ print-bytes-spec =
     Inv-loop
     μ-loop
     loop-holds
-    element-copy-out-print-byte
+    shared-slice-read-print-byte
     print-byte-requires
     add-i
     loop-less

@@ -1,11 +1,20 @@
-// What is lent to compile, as the lines of the input tell it.
+// What is lent to compile, to plan and to the program, as the lines of the input tell it.
 
 // The kinds of lines, by their first byte.
 const SHEET: u8 = b's';
 
 const ANSWER: u8 = b'a';
 
-pub const CASE: u8 = b' ';
+pub const COMPILE: u8 = b' ';
+
+pub const PLAN: u8 = b'>';
+
+pub const PRINT: u8 = b'=';
+
+// A line of this kind is a case.
+fn is_case(kind: u8) -> bool {
+    kind == COMPILE || kind == PLAN || kind == PRINT
+}
 
 // The bytes are all[..end].
 pub struct Sheet {
@@ -37,8 +46,7 @@ impl Sheet {
     }
 }
 
-// The sheet, the call (horizon, limit, the row buffer's length in bytes) and how many of its numbers are told, and the length of
-// the answer slice, which is 20 until a line tells it.
+// The sheet, the call's numbers and how many of them are told, and the length of the answer slice, which is 20 until a line tells it.
 pub struct Given {
     pub sheet: Sheet,
     pub call: [u32; 3],
@@ -61,7 +69,7 @@ impl Given {
         if kind == SHEET {
             self.sheet = Sheet::new();
         }
-        if kind == CASE {
+        if is_case(kind) {
             self.told = 0;
         }
         self
@@ -86,7 +94,7 @@ impl Given {
         if kind == ANSWER {
             self.into = n as usize;
         }
-        if kind == CASE {
+        if is_case(kind) {
             return self.argument(n);
         }
         self

@@ -1,9 +1,9 @@
--- `compile_cases::cases::try_all` is safe and ends: each line is behind the one before. Assumes nothing.
+-- `compile_plan_cases::cases::try_all` is safe and ends: each line is behind the one before. Assumes nothing.
 use Prim.Native.Nat.{_-_}
 use lib.ListN.{length}
 use borrow.Author.Needs.{needs}
-use Rattle.compile_cases.proofs.cases.try_all.Statement.{statement}
-use Rattle.compile_cases.proofs.cases.try_all.Tie as tie
+use Rattle.compile_plan_cases.proofs.cases.try_all.Statement.{statement}
+use Rattle.compile_plan_cases.proofs.cases.try_all.Tie as tie
 
 abbrev Inv-loop : tie.InvT-loop
 Inv-loop text given₀ at₀ given at = Unit

@@ -1,8 +1,8 @@
--- `compile_cases::rows::print_rows` is safe and ends: i nears n. Assumes nothing.
+-- `compile_plan_cases::rows::print_rows` is safe and ends: i nears n. Assumes nothing.
 use Prim.Native.Nat.{_-_}
 use borrow.Author.Needs.{needs}
-use Rattle.compile_cases.proofs.rows.print_rows.Statement.{statement}
-use Rattle.compile_cases.proofs.rows.print_rows.Tie as tie
+use Rattle.compile_plan_cases.proofs.rows.print_rows.Statement.{statement}
+use Rattle.compile_plan_cases.proofs.rows.print_rows.Tie as tie
 
 abbrev Inv-loop : tie.InvT-loop
 Inv-loop bytes n i₀ comma i = Unit

@@ -1,12 +1,12 @@
--- `compile_cases::cases::try_case` is safe: no more is lent than there is. Assumes nothing.
+-- `compile_plan_cases::cases::try_plan` is safe: no more is lent than there is. Assumes nothing.
 use mathlib.Core.Path.{_≡_, sym}
 use Prim.Native.Nat.{_≤_}
 use native.Mathlib.Omega.{arith}
 use lib.ListN.{length}
 use lib.Seq.{length-take-le}
 use borrow.Author.Needs.{needs}
-use Rattle.compile_cases.proofs.cases.try_case.Statement.{statement}
-use Rattle.compile_cases.proofs.cases.try_case.Tie as tie
+use Rattle.compile_plan_cases.proofs.cases.try_plan.Statement.{statement}
+use Rattle.compile_plan_cases.proofs.cases.try_plan.Tie as tie
 
 fresh-requires : tie.Need-fresh-requires
 fresh-requires c κs = search needs
@@ -23,22 +23,22 @@ at-most-requires c κs = search needs
 array-borrow-prefix-all : tie.Need-array-borrow-prefix-all
 array-borrow-prefix-all c = search needs
 
-slice-aggregate-try-rows : tie.Need-slice-aggregate-try-rows
-slice-aggregate-try-rows c =
+slice-aggregate-plan-rows : tie.Need-slice-aggregate-plan-rows
+slice-aggregate-plan-rows c =
     let n = c .before .at-most .result in
     let l = c .before .before .before .fresh .result in
     let most : n ≤ 1048608 = c .before .at-most .ensures in
     let all : 1048608 ≡ length l = c .before .before .before .fresh .ensures in
     sym (length-take-le n l (omega arith))
 
-try-rows-requires : tie.Need-try-rows-requires
-try-rows-requires c κs = search needs
+plan-rows-requires : tie.Need-plan-rows-requires
+plan-rows-requires c κs = search needs
 
 returns : tie.Need-returns
 returns c = search needs
 
-pub try-case-spec : {M : Type 1} → statement M
-try-case-spec =
+pub try-plan-spec : {M : Type 1} → statement M
+try-plan-spec =
     tie.close
     (tie.spec
     fresh-requires
@@ -46,6 +46,6 @@ try-case-spec =
     cast-at-most
     at-most-requires
     array-borrow-prefix-all
-    slice-aggregate-try-rows
-    try-rows-requires
+    slice-aggregate-plan-rows
+    plan-rows-requires
     returns)

@@ -36,10 +36,17 @@ fn print_byte(b: u8) {
 }
 
 // The bytes in base 16, each behind a space.
-fn print_bytes(bytes: &[u8; 24]) {
-    for i in 0..24 {
+fn print_bytes(bytes: &[u8]) {
+    for i in 0..bytes.len() {
         print_byte(bytes[i]);
     }
+}
+
+// A line: the bytes of a schedule buffer and those behind it.
+pub fn line_schedule(bytes: &[u8; 12]) {
+    io::write_all(1, b" schedule:");
+    print_bytes(&bytes[..]);
+    io::write_all(1, b"\n");
 }
 
 // A line for an answer slice of n bytes, the front of 24: the label and the code; the place, the horizon, the effort, the rows and
@@ -54,7 +61,7 @@ pub fn line(label: &[u8], n: usize, code: u32, answer: &[u8; 24]) {
     } else {
         io::write_all(1, b" into");
         print(n as u64);
-        print_bytes(answer);
+        print_bytes(&answer[..]);
     }
     io::write_all(1, b"\n");
 }

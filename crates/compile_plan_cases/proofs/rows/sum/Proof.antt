@@ -1,10 +1,10 @@
--- `compile_cases::rows::sum` is safe and ends: i nears the length. Assumes nothing.
+-- `compile_plan_cases::rows::sum` is safe and ends: i nears the length. Assumes nothing.
 use Prim.Native.Nat.{_-_}
 use mathlib.Core.Path.{_≡_}
 use lib.ListN.{length}
 use borrow.Author.Needs.{needs}
-use Rattle.compile_cases.proofs.rows.sum.Statement.{statement}
-use Rattle.compile_cases.proofs.rows.sum.Tie as tie
+use Rattle.compile_plan_cases.proofs.rows.sum.Statement.{statement}
+use Rattle.compile_plan_cases.proofs.rows.sum.Tie as tie
 
 abbrev Inv-loop : tie.InvT-loop
 Inv-loop bytes s₀ i₀ i-end s i = i-end ≡ length bytes
