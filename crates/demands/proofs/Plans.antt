@@ -57,12 +57,12 @@ module _ (p : Sheet) (limit k : ℕ) (t : Table) (σ : Schedule) where
       subst (λ x. spec.InHand p limit k x × spec.Within p limit k x × spec.HasPlan p limit k x) q
       ((h .0, h .1), (h .2 .within-effort, h .2 .within-room), (σ, h .4 .0, h .4 .1))
 
-  none-at : (a : Planned) → Says p limit k a t σ → planCode a ≡ 9 → AllPassed p limit k (suc (p .H))
-  none-at (Planned.Refused f) h c = absurd h
-  none-at (Planned.TooMuch m) h c = absurd (omega arith)
-  none-at (Planned.NoRoom m e) h c = absurd (omega arith)
-  none-at (Planned.NoPlan m e r i) h c = subst (λ x. AllPassed p limit k (suc x)) (h .0) (h .1)
-  none-at (Planned.Found m e r i) h c = absurd (omega arith)
+  none-at : (a : Planned) → Says p limit k a t σ → planCode a ≡ 9 → (n : ℕ) → said a .horizon ≡ n → (n ≡ p .H) × AllPassed p limit k (suc n)
+  none-at (Planned.Refused f) h c n q = absurd h
+  none-at (Planned.TooMuch m) h c n q = absurd (omega arith)
+  none-at (Planned.NoRoom m e) h c n q = absurd (omega arith)
+  none-at (Planned.NoPlan m e r i) h c n q = subst (λ x. (x ≡ p .H) × AllPassed p limit k (suc x)) q (h .0, h .1)
+  none-at (Planned.Found m e r i) h c n q = absurd (omega arith)
 
   effort-at : (a : Planned) → Says p limit k a t σ → planCode a ≡ 7 → (n : ℕ) → said a .horizon ≡ n → spec.InHand p limit k n × spec.OverEffort p limit k n
   effort-at (Planned.Refused f) h c n q = absurd h
@@ -112,15 +112,14 @@ module _ (p : Sheet) (limit k : ℕ) where
         (w .0 .0, w .0 .1, c, refl, f .1) in
         (ap planCode e, ap (λ x. said x .horizon) e)
 
-    is-none : AllPassed p limit k (suc (p .H)) → planCode a ≡ 9
-    is-none w =
-        let n : ℕ = p .H in
-        let l = w n (omega arith) in
+    is-none : (n : ℕ) → (n ≡ p .H) × AllPassed p limit k (suc n) → (planCode a ≡ 9) × (said a .horizon ≡ n)
+    is-none n w =
+        let l = w .1 n (omega arith) in
         let c : Answered limit k (theory p n) (effort (theory p n)) (length (compile (theory p n) .table)) (compile (theory p n) .root) =
         record { effort-is = refl; rows-are = refl; root-is = refl; within-effort = l .0; within-room = l .1 } in
-        ap planCode
-        (paper.says-one p limit k a (Planned.NoPlan n (effort (theory p n)) (length (compile (theory p n) .table)) (compile (theory p n) .root)) t (compile (theory p n) .table) σ [] h
-        (refl, w, c, refl))
+        let e = paper.says-one p limit k a (Planned.NoPlan n (effort (theory p n)) (length (compile (theory p n) .table)) (compile (theory p n) .root)) t (compile (theory p n) .table) σ [] h
+        (w .0, w .1, c, refl) in
+        (ap planCode e, ap (λ x. said x .horizon) e)
 
     is-effort : (n : ℕ) → spec.InHand p limit k n × spec.OverEffort p limit k n → (planCode a ≡ 7) × (said a .horizon ≡ n)
     is-effort n w =
@@ -132,12 +131,12 @@ module _ (p : Sheet) (limit k : ℕ) where
         let e = paper.says-one p limit k a (Planned.NoRoom n (effort (theory p n))) t [] σ [] h (w .0 .0, w .0 .1, (w .1 .0, refl), w .1 .1) in
         (ap planCode e, ap (λ x. said x .horizon) e)
 
-    says-planned : (buf : List ℕ) → spec.Planned p limit k (said a) (planSchedule buf (record { answer = a; table = t; schedule = σ }) a)
+    says-planned : (buf : List ℕ) → spec.Tells p limit k (said a) (planSchedule buf (record { answer = a; table = t; schedule = σ }) a)
     says-planned buf = record {
       codes = code-of p limit k t σ a h;
       least = λ n. ((λ w. found-at p limit k t σ a h (w .0) n (w .1)), is-found n);
       first = first-at p limit k t σ a h buf;
-      complete = (none-at p limit k t σ a h, is-none);
+      complete = λ n. ((λ w. none-at p limit k t σ a h (w .0) n (w .1)), is-none n);
       stops-effort = λ n. ((λ w. effort-at p limit k t σ a h (w .0) n (w .1)), is-effort n);
       stops-room = λ n. ((λ w. room-at p limit k t σ a h (w .0) n (w .1)), is-room n);
       circuit = circuit-at p limit k t σ a h;
@@ -219,7 +218,7 @@ told-demand b limit word buf sch =
       no-start = λ p d l z. ap (λ x. planCode (x .answer)) (paper.plan-no-start b p d limit (room buf) (length sch) l (count-zero (2 ^ p .F) (isStart p) z) .0);
       planned = λ p d l s hs e.
           let says = paper.demand2 b p d limit (room buf) (length sch) l (some-start p s hs e) in
-          subst (λ r. spec.Planned p limit (room buf) r (planSchedule sch o (o .answer))) (sym (told-said (o .answer) (small p (decoded-fine b p d) limit word buf (o .table) (o .schedule) (o .answer) says)))
+          subst (λ r. spec.Tells p limit (room buf) r (planSchedule sch o (o .answer))) (sym (told-said (o .answer) (small p (decoded-fine b p d) limit word buf (o .table) (o .schedule) (o .answer) says)))
           (says-planned p limit (room buf) (o .answer) (o .table) (o .schedule) says sch);
     }
 

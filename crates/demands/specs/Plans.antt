@@ -44,13 +44,13 @@ module _ (p : Sheet) (limit k : ℕ) where
   HasPlan n = (σ : Schedule) × (valid (p .A) n σ ≡ true) × (isPlan p σ ≡ true)
 
   -- what the answer says of a sheet with a start
-  pub record Planned (r : Told) (schedule : List ℕ) : Type 0 where
+  pub record Tells (r : Told) (schedule : List ℕ) : Type 0 where
     pub codes : elem (r .code) (0 ∷ 7 ∷ 8 ∷ 9 ∷ []) ≡ true
     -- 0: the least horizon up to H at which some schedule reaches the goal from every start, and the first such schedule
     pub least : (n : ℕ) → ((r .code ≡ 0) × (r .horizon ≡ n)) ↔ (InHand n × Within n × HasPlan n)
     pub first : r .code ≡ 0 → First (valid (p .A) (r .horizon)) (isPlan p) (some (take (r .horizon) schedule))
     -- 9: none exists up to H
-    pub complete : (r .code ≡ 9) ↔ AllPassed p limit k (suc (p .H))
+    pub complete : (n : ℕ) → ((r .code ≡ 9) × (r .horizon ≡ n)) ↔ ((n ≡ p .H) × AllPassed p limit k (suc n))
     -- 7 and 8: the counts at the horizon in hand pass the limits
     pub stops-effort : (n : ℕ) → ((r .code ≡ 7) × (r .horizon ≡ n)) ↔ (InHand n × OverEffort n)
     pub stops-room : (n : ℕ) → ((r .code ≡ 8) × (r .horizon ≡ n)) ↔ (InHand n × OverRoom n)
@@ -61,4 +61,4 @@ module _ (p : Sheet) (limit k : ℕ) where
 pub record Demand2 (b : List ℕ) (limit k bytes : ℕ) (r : Told) (schedule : List ℕ) : Type 0 where
   pub short : (p : Sheet) → decode b ≡ decoded p → bytes < p .H → r .code ≡ 5
   pub no-start : (p : Sheet) → decode b ≡ decoded p → p .H ≤ bytes → ((s : ℕ) → s < 2 ^ p .F → isStart p s ≡ false) → r .code ≡ 6
-  pub planned : (p : Sheet) → decode b ≡ decoded p → p .H ≤ bytes → (s : ℕ) → s < 2 ^ p .F → isStart p s ≡ true → Planned p limit k r schedule
+  pub planned : (p : Sheet) → decode b ≡ decoded p → p .H ≤ bytes → (s : ℕ) → s < 2 ^ p .F → isStart p s ≡ true → Tells p limit k r schedule
