@@ -46,8 +46,9 @@ enum {
     BRINGUP_PLAN_BYTES = 20
 };
 
-/* Stack that is enough for each call, on whatever it is lent. Check and run use under 2 KiB of it; a program that is linked dynamically
- * needs some 3 KiB more at its first call. */
+/* Stack for each call, on whatever it is lent. This is no part of the proof: it is measured, and for compile and plan counted from the sizes of
+ * their frames and how deep they can go. Check and run use under 2 KiB of it; a program that is linked dynamically needs some 3 KiB more at
+ * its first call. */
 enum {
     BRINGUP_CHECK_STACK = 8192,
     BRINGUP_RUN_STACK = 8192,
