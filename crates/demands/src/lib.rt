@@ -41,7 +41,7 @@ pub fn circuit_is_the_projection(
     table: &mut [u8],
     limit: u32,
 ) -> Built
-    requires { ⌜ state.Sound (now literals) (now ends) ⌝ }
+    requires { ⌜ state.Sound (now literals) (now ends) × (length (now literals) ≤ 18720) × (length (now ends) ≤ 6896) ⌝ }
     ensures built { λ r. ⌜ r ≡ circuit.builtOf limit (operation.room (now (table .entry))) (state.clausesOf (now (literals .entry)) (now (ends .entry))) ⌝ }
     ensures rows { λ r. ⌜ now (table .exit) ≡ compileRows (circuit.compile (state.clausesOf (now (literals .entry)) (now (ends .entry))) .table) (now (table .entry)) (compiled.Answered r) ⌝ }
     ensures projects { λ r. ⌜ spec.Projects (state.clausesOf (now (literals .entry)) (now (ends .entry))) (now (table .exit)) r ⌝ }
