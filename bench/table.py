@@ -1,4 +1,4 @@
-"""Joins the measurements of the library, of plain.c and of two earlier versions: table.py LIBRARY PLAIN BEFORE FIRST, files of bench.c's lines.
+"""Joins the measurements of the library, of plain.c and of earlier versions: table.py LIBRARY PLAIN [BEFORE [FIRST]], files of bench.c's lines.
 Prints ratios: how many times as long as plain C the library takes, and how many times as long as the library the earlier versions took."""
 import sys
 
@@ -25,9 +25,10 @@ def print_table(library, plain, before):
     print('%-10s %-8s %4s %9s %6s %12s %16s' % ('sheet', '', 'at', 'effort', 'rows', 'to plain C', 'before, to this'))
     for key, lines in library.items():
         (horizon, code, effort, rows, _), taken = lines[-1]
-        peers, old = plain[key], before[key]
-        wrong += differ(lines, peers) or differ(lines, old)
-        print('%-10s %-8s %4d %9d %6d %12.2f %16.1f%s' % (*key, horizon, effort, rows, taken / peers[-1][1], old[-1][1] / taken,
+        peers, old = plain[key], before.get(key)
+        wrong += differ(lines, peers) or bool(old) and differ(lines, old)
+        then = '%.1f' % (old[-1][1] / taken) if old else '-'
+        print('%-10s %-8s %4d %9d %6d %12.2f %16s%s' % (*key, horizon, effort, rows, taken / peers[-1][1], then,
                                                         '' if code == 0 else '  code %d' % code))
     return wrong
 
@@ -43,7 +44,7 @@ def print_curve(name, curve, peers):
 
 
 def main():
-    library, plain, before, first = map(read, sys.argv[1:5])
+    library, plain, before, first = [*map(read, sys.argv[1:5]), {}, {}][:4]
     wrong = print_table(library, plain, before)
     for key in sorted(first):
         if key[1] == 'compile':

@@ -1,4 +1,6 @@
 // What comes back: the code and the numbers of an answer.
+#![tactic(auto)]
+
 ghost use Rattle.std.specs.Prelude.{◌≡◌};
 ghost use Rattle.paper.specs.Answers.{fault_code, fault_place, check_code, check_numbers, run_code, run_numbers, compile_code, compile_numbers, judge_code, judge_numbers, plan_code, plan_numbers};
 

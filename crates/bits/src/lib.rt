@@ -1,4 +1,6 @@
 // Bits of a mask and numbers in bytes: what the machine's operations say of document 01's bits stands in proofs/.
+#![tactic(auto)]
+
 ghost use Rattle.std.specs.Prelude.{◌≡◌, cond, ◌++◌, ◌+◌, ◌^◌, ◌≤◌, ◌<◌, length, drop};
 ghost use Rattle.paper.specs.Counting as counting;
 ghost use Rattle.paper.specs.Sheet as sheet;

@@ -1,10 +1,12 @@
-// The operations for C: numbers and byte slices in; the code returned, the numbers written into the answer slice.
+// The operations as C calls them, which `bringup_c` exports: numbers and byte slices in; the code returned, the numbers written into the answer slice.
+#![tactic(auto)]
+
 ghost use Rattle.std.specs.Prelude.{◌≡◌};
 ghost use Rattle.paper.specs.Answers.{check_left, run_left, compile_left, judge_left, plan_left};
 
 // Check: place and count into the answer.
-#[unsafe(no_mangle)]
-pub extern "C" fn bringup_check(sheet: &[u8], answer: &mut [u8]) -> u32
+#[tactic(auto, unfolding(paper::specs::Answers::check_left))]
+pub fn bringup_check(sheet: &[u8], answer: &mut [u8]) -> u32
     ensures code { result ≡ (check_left sheet.now answer.old).code }
     ensures written { answer.new ≡ (check_left sheet.now answer.old).answer }
 {
@@ -15,8 +17,8 @@ pub extern "C" fn bringup_check(sheet: &[u8], answer: &mut [u8]) -> u32
 }
 
 // Run: place, steps done, the state reached and the goal into the answer.
-#[unsafe(no_mangle)]
-pub extern "C" fn bringup_run(sheet: &[u8], state: u32, schedule: &[u8], answer: &mut [u8]) -> u32
+#[tactic(auto, unfolding(paper::specs::Answers::run_left))]
+pub fn bringup_run(sheet: &[u8], state: u32, schedule: &[u8], answer: &mut [u8]) -> u32
     ensures code { result ≡ (run_left sheet.now state schedule.now answer.old).code }
     ensures written { answer.new ≡ (run_left sheet.now state schedule.now answer.old).answer }
 {
@@ -27,8 +29,8 @@ pub extern "C" fn bringup_run(sheet: &[u8], state: u32, schedule: &[u8], answer:
 }
 
 // Compile: place, horizon, effort, rows and root into the answer, the circuit into the rows.
-#[unsafe(no_mangle)]
-pub extern "C" fn bringup_compile(
+#[tactic(auto, unfolding(paper::specs::Answers::compile_left))]
+pub fn bringup_compile(
     sheet: &[u8],
     horizon: u32,
     limit: u32,
@@ -46,8 +48,8 @@ pub extern "C" fn bringup_compile(
 }
 
 // Judge: place and the root's value into the answer.
-#[unsafe(no_mangle)]
-pub extern "C" fn bringup_judge(
+#[tactic(auto, unfolding(paper::specs::Answers::judge_left))]
+pub fn bringup_judge(
     sheet: &[u8],
     horizon: u32,
     rows: &[u8],
@@ -67,8 +69,8 @@ pub extern "C" fn bringup_judge(
 }
 
 // Plan: place, horizon, effort, rows and root into the answer, the last circuit into the rows, on 0 the entries into the schedule.
-#[unsafe(no_mangle)]
-pub extern "C" fn bringup_plan(
+#[tactic(auto, unfolding(paper::specs::Answers::plan_left))]
+pub fn bringup_plan(
     sheet: &[u8],
     limit: u32,
     rows: &mut [u8],

@@ -1,7 +1,7 @@
 // Sheets as bytes: rows one after the other, and the trailer.
 
 // The sheet is bytes[from..end].
-#[derive(Drop)]
+#[derive(Clone, Copy)]
 pub struct Sheet {
     pub bytes: [u8; 512],
     pub from: usize,

@@ -1,9 +1,10 @@
 // The lines of the input: they tell what is lent, or are cases.
-ghost use Rattle.std.specs.Prelude.{◌+◌, ◌≤◌, length};
+ghost use Rattle.std.specs.Prelude.{◌≤◌, length};
 
 use crate::given::{COMPILE, Given, PLAN, PRINT};
 use crate::lines::{line, line_schedule};
-use crate::rows::{fresh, line_rows};
+use crate::tables::{fresh, line_rows};
+use std::io;
 use text::{find, find_digit, number};
 
 // The first n bytes, lent.
@@ -30,21 +31,16 @@ fn at_most(n: usize, most: usize) -> usize
     if n < most { n } else { most }
 }
 
-// A case of compile with the row buffer that is lent: a line of the answer, and one of the rows.
-fn compile_rows(g: Given, label: &[u8], rows: &mut [u8]) {
+// A case of compile: horizon, limit, and the length of its row buffer, of at most two rows more than 65,536. A line of the answer, and
+// one of the rows.
+fn try_compile<R: Print + AllocGlobal>(rt: &R, g: Given, label: &[u8]) -> io::Result<()> {
+    let call = g.call;
+    let mut rows = fresh(rt.alloc(), at_most(call[2] as usize, 1048608))?;
     let mut answer = [0xEEu8; 24];
     let n = at_most(g.into, 24);
-    let code = compile_into(g, rows, &mut answer[0..n]);
-    line(label, n, code, &answer);
-    line_rows(rows);
-}
-
-// A case of compile: horizon, limit, and the length of its row buffer, the front of one with two rows more than 65,536.
-fn try_compile(g: Given, label: &[u8]) {
-    let mut all = fresh();
-    let call = g.call;
-    let n = at_most(call[2] as usize, 1048608);
-    compile_rows(g, label, &mut all[..n]);
+    let code = compile_into(g, &mut rows, &mut answer[0..n]);
+    line(rt, label, n, code, &answer)?;
+    line_rows(rt, &rows)
 }
 
 // Plan of what is given, into a row buffer, a schedule buffer and an answer slice.
@@ -55,50 +51,33 @@ fn plan_into(g: Given, rows: &mut [u8], schedule: &mut [u8], answer: &mut [u8]) 
     bringup::bringup_plan(lent(&s, sheet.end), call[0], rows, schedule, answer)
 }
 
-// A case of plan with the row buffer that is lent: lines of the answer, of the schedule buffer and of the rows.
-fn plan_rows(g: Given, label: &[u8], rows: &mut [u8]) {
+// A case of plan: limit, the length of its row buffer, and that of its schedule buffer, the front of one of 12 bytes. Lines of the
+// answer, of the schedule buffer and of the rows.
+fn try_plan<R: Print + AllocGlobal>(rt: &R, g: Given, label: &[u8]) -> io::Result<()> {
+    let call = g.call;
+    let mut rows = fresh(rt.alloc(), at_most(call[1] as usize, 1048608))?;
     let mut answer = [0xEEu8; 24];
     let mut schedule = [0xEEu8; 12];
     let n = at_most(g.into, 24);
-    let call = g.call;
     let m = at_most(call[2] as usize, 12);
-    let code = plan_into(g, rows, &mut schedule[0..m], &mut answer[0..n]);
-    line(label, n, code, &answer);
-    line_schedule(&schedule);
-    line_rows(rows);
-}
-
-// A case of plan: limit, the length of its row buffer, and that of its schedule buffer, the front of one of 12 bytes.
-fn try_plan(g: Given, label: &[u8]) {
-    let mut all = fresh();
-    let call = g.call;
-    let n = at_most(call[1] as usize, 1048608);
-    plan_rows(g, label, &mut all[..n]);
-}
-
-// The sheet's bytes into the program's input, from a place on.
-fn place(input: &mut [u8], from: usize, bytes: &[u8; 512], n: usize)
-    requires { (from + n ≤ length input.old) × (n ≤ 512) }
-{
-    for i in 0..n {
-        input[from + i] = bytes[i];
-    }
+    let code = plan_into(g, &mut rows, &mut schedule[0..m], &mut answer[0..n]);
+    line(rt, label, n, code, &answer)?;
+    line_schedule(rt, &schedule)?;
+    line_rows(rt, &rows)
 }
 
 // A case of the program: so many zero bytes, then the sheet; the line that it prints for them.
-fn try_print(g: Given, label: &[u8]) {
-    let mut input = [0u8; 5121];
+fn try_print<R: Print + AllocGlobal>(rt: &R, g: Given, label: &[u8]) -> io::Result<()> {
     let call = g.call;
     let sheet = g.sheet;
     let bytes = sheet.all;
-    let front = at_most(call[0] as usize, 4609);
-    let n = at_most(sheet.end, 512);
-    place(&mut input, front, &bytes, n);
+    let mut input = vec![in rt.alloc(); 0u8; at_most(call[0] as usize, 4609)]?;
+    input.extend_from_slice(lent(&bytes, sheet.end))?;
     let mut out = [0u8; 128];
-    let end = program::print(&input[0..front + n], &mut out);
-    io::write_all(1, label);
-    io::write_all(1, b": ");
-    io::write_all(1, &out[0..end]);
+    let end = program::print(&input, &mut out);
+    rt.write_all(label)?;
+    rt.write_all(b": ")?;
+    rt.write_all(&out[0..end])
 }
 
 // The numbers of a line from a place on.
@@ -116,33 +95,31 @@ fn take(g: Given, kind: u8, text: &[u8], from: usize) -> Given
 }
 
 // A line: its first byte is its kind; its numbers stand behind a colon, in front of which a case has its label.
-fn try_line(g: Given, text: &[u8]) -> Given {
+fn try_line<R: Print + AllocGlobal>(rt: &R, g: Given, text: &[u8]) -> io::Result<Given> {
     if text.len() < 2 {
-        return g;
+        return Ok(g);
     }
     let kind = text[0];
     let colon = find(text, 2, b':');
     let given = take(g, kind, text, colon);
     let label = &text[2..colon];
     if kind == COMPILE {
-        try_compile(given, label);
+        try_compile(rt, given, label)?;
     }
     if kind == PLAN {
-        try_plan(given, label);
+        try_plan(rt, given, label)?;
     }
     if kind == PRINT {
-        try_print(given, label);
+        try_print(rt, given, label)?;
     }
-    given
+    Ok(given)
 }
 
 // Each line of the input.
-pub fn try_all(text: &[u8]) {
+pub fn try_all<R: Print + AllocGlobal>(rt: &R, text: &[u8]) -> io::Result<()> {
     let mut given = Given::new();
-    let mut at: usize = 0;
-    while at < text.len() {
-        let end = find(text, at, b'\n');
-        given = try_line(given, &text[at..end]);
-        at = end + 1;
+    for line in text.split(|b| *b == b'\n') {
+        given = try_line(rt, given, line)?;
     }
+    Ok(())
 }

@@ -17,7 +17,7 @@ fn is_case(kind: u8) -> bool {
 }
 
 // The bytes are all[..end].
-#[derive(Drop)]
+#[derive(Clone, Copy)]
 pub struct Sheet {
     pub all: [u8; 512],
     pub end: usize,
@@ -48,7 +48,7 @@ impl Sheet {
 }
 
 // The sheet, the call's numbers and how many of them are told, and the length of the answer slice, which is 20 until a line tells it.
-#[derive(Drop)]
+#[derive(Clone, Copy)]
 pub struct Given {
     pub sheet: Sheet,
     pub call: [u32; 3],

@@ -1,22 +1,22 @@
 -- Demand 2, from what plan promises. Assumes nothing.
 use mathlib.Core.Path.{◌≡◌, refl, sym, ap, ◌∙◌, subst}
 use mathlib.Core.Bool.{Bool, true, false}
-use mathlib.Core.List.{List, [], ◌∷◌, ◌++◌}
+use mathlib.Core.List.{List, [], ◌∷◌}
 use mathlib.Core.Option.{Option, none, some}
-use Prim.Native.Nat.{ℕ, zero, suc, ◌+◌, ◌*◌, ◌^◌, ◌≤◌, ◌<◌}
+use Prim.Native.Nat.{ℕ, zero, suc, ◌^◌, ◌≤◌, ◌<◌}
 use native.Mathlib.Omega.{arith}
 use lib.ListN.{length, get_or, take, drop}
 use lib.Seq.{take_at}
 use Rattle.paper.specs.declared.Planned.{Planned}
 use Rattle.paper.specs.Lists.{elem}
 use Rattle.paper.specs.Counting.{worth, count_below}
-use Rattle.paper.specs.Sheet.{Sheet, Fine, decoded, decode, is_start, start_count}
+use Rattle.paper.specs.Sheet.{Sheet, Fine, is_start, start_count}
 use Rattle.paper.specs.Step.{is_plan}
 use Rattle.paper.specs.Clauses.{theory}
 use Rattle.paper.specs.Circuit.{Table, compile, effort}
 use Rattle.paper.specs.Operations.{room, long, Schedule, valid, First, first_plan, Outcome, plan_of}
 use Rattle.paper.specs.Answers.{plan_code, plan_numbers, plan_schedule, told, told_at, plan_left}
-use Rattle.paper.specs.Planning.{Answered, AllPassed, Says, SaysOf}
+use Rattle.paper.specs.Planning.{Answered, AllPassed, Says}
 use Rattle.paper.proofs.Basic.{never}
 use Rattle.paper.proofs.Decoded.{decoded_fine}
 use Rattle.paper.proofs.FirstSchedule.{schedules_first}

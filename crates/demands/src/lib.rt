@@ -1,4 +1,6 @@
 // What is demanded of the planner and of the circuit, over the promises of the functions that answer: each function here makes their calls and promises what they mean together.
+#![tactic(auto)]
+
 ghost use Rattle.std.specs.Prelude.{◌≡◌, [], ◌≤◌, length, drop};
 ghost use Rattle.paper.specs.declared.Compiled.TheVariants as compiled;
 ghost use Rattle.paper.specs.Sheet as paper;
@@ -47,7 +49,7 @@ pub fn circuit_is_the_projection(
 }
 
 // What a call of plan answered: its code, and the numbers behind the place.
-#[derive(Drop)]
+#[derive(Clone, Copy)]
 pub struct Told {
     pub code: u32,
     pub horizon: u32,
@@ -75,7 +77,7 @@ pub fn demand2(sheet: &[u8], limit: u32, rows: &mut [u8], schedule: &mut [u8]) -
 }
 
 // What two calls answered: the code of compile, the code of judge, the value that judge gave.
-#[derive(Drop)]
+#[derive(Clone, Copy)]
 pub struct Asked {
     pub compiled: u32,
     pub judged: u32,

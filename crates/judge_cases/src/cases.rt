@@ -3,6 +3,7 @@ ghost use Rattle.std.specs.Prelude.{◌≤◌, length};
 
 use crate::given::{CASE, Given};
 use crate::lines::{line, line_into};
+use std::io;
 use text::{find, find_digit, number};
 
 // The first n bytes, lent.
@@ -36,15 +37,15 @@ fn judge_into(g: Given, answer: &mut [u8]) -> u32 {
 }
 
 // A case: the numbers of its answer, or the answer's bytes where a line has told its length.
-fn try_case(g: Given, label: &[u8]) {
+fn try_case(rt: &impl Print, g: Given, label: &[u8]) -> io::Result<()> {
     let mut answer = [0xEEu8; 12];
     let n = g.into;
     if n <= 12 {
         let code = judge_into(g, &mut answer[0..n]);
-        line_into(label, n, code, &answer);
+        line_into(rt, label, n, code, &answer)
     } else {
         let code = judge_into(g, &mut answer[0..8]);
-        line(label, code, &answer);
+        line(rt, label, code, &answer)
     }
 }
 
@@ -63,26 +64,24 @@ fn take(g: Given, kind: u8, text: &[u8], from: usize) -> Given
 }
 
 // A line: its first byte is its kind; its numbers stand behind a colon, in front of which a case has its label.
-fn try_line(g: Given, text: &[u8]) -> Given {
+fn try_line(rt: &impl Print, g: Given, text: &[u8]) -> io::Result<Given> {
     if text.len() < 2 {
-        return g;
+        return Ok(g);
     }
     let kind = text[0];
     let colon = find(text, 2, b':');
     let given = take(g, kind, text, colon);
     if kind == CASE {
-        try_case(given, &text[2..colon]);
+        try_case(rt, given, &text[2..colon])?;
     }
-    given
+    Ok(given)
 }
 
 // Each line of the input.
-pub fn try_all(text: &[u8]) {
+pub fn try_all(rt: &impl Print, text: &[u8]) -> io::Result<()> {
     let mut given = Given::new();
-    let mut at: usize = 0;
-    while at < text.len() {
-        let end = find(text, at, b'\n');
-        given = try_line(given, &text[at..end]);
-        at = end + 1;
+    for line in text.split(|b| *b == b'\n') {
+        given = try_line(rt, given, line)?;
     }
+    Ok(())
 }

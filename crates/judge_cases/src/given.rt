@@ -14,7 +14,7 @@ const ANSWER: u8 = b'a';
 pub const CASE: u8 = b' ';
 
 // The bytes are all[..end].
-#[derive(Drop)]
+#[derive(Clone, Copy)]
 pub struct Bytes {
     pub all: [u8; 4096],
     pub end: usize,
@@ -62,7 +62,7 @@ impl Bytes {
 
 // The sheet, the table, the call (horizon, count, root, state) and how many of its numbers are told, the masks, and the
 // length of the answer slice, which is above 12 until a line tells it.
-#[derive(Drop)]
+#[derive(Clone, Copy)]
 pub struct Given {
     pub sheet: Bytes,
     pub table: Bytes,

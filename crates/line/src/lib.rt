@@ -1,4 +1,6 @@
 // Numbers in decimal, written into a lent slice: the program's line.
+#![tactic(auto)]
+
 ghost use Rattle.std.specs.Prelude.{◌∷◌, [], ◌+◌, ◌^◌, ◌≤◌, ◌<◌, length, take};
 ghost use Rattle.paper.specs.Lists.{each};
 ghost use Rattle.paper.specs.Program as paper;

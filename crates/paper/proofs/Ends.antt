@@ -44,5 +44,5 @@ module _ (p : Sheet) (N : ℕ) (v : Assign) (i s : ℕ) (fa : Facts p N v i s) w
   moment_eq cs h =
       all_map (sat v) _ (filter (λ c. not (overlap c.pos c.neg)) cs)
       ∙ all_filter _ (λ c. not (overlap c.pos c.neg)) cs
-      ∙ all_when (good_masks p.F) _ (holds_in p.F s) (λ c n. by (overlap c.pos c.neg)
+      ∙ all_when (good_masks p.F) (λ c. not (not (overlap c.pos c.neg)) || any (holds v) (literals p N (record { 0 = i }) c.pos c.neg)) (holds_in p.F s) (λ c n. by (overlap c.pos c.neg)
       (λ o. rw o (sym (always p.F s c n o))) (λ o. rw o (clause_eq c))) cs h

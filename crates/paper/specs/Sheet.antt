@@ -190,7 +190,7 @@ pub record Fine (p : Sheet) : Type 0 where
   pub rules_most : p.R ≤ 24
   pub starts_most : length p.starts ≤ 16
   pub goals_most : length p.goals ≤ 16
-  pub horizon_most : p.𝓛.H ≤ 8
+  pub horizon_most : p.H ≤ 8
   pub needs_count : length p.needs ≡ p.A
   pub rules_count : length p.rules ≡ p.R
   pub needs_fine : all (good_need p.F) p.needs ≡ true

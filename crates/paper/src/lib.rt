@@ -1,12 +1,14 @@
 // The vocabulary of document 01: the types that every crate shares. What they mean stands in specs/.
+#![tactic(auto)]
+
 ghost use Rattle.std.specs.Prelude.{◌≡◌, ◌<◌};
 ghost use Rattle.paper.specs.Counting.{before, after};
 
 // Moments run 0..n and steps 0..n-1: two counts, of two types.
-#[derive(Drop)]
+#[derive(Clone, Copy)]
 pub struct Moment(pub usize);
 
-#[derive(Drop)]
+#[derive(Clone, Copy)]
 pub struct Step(pub usize);
 
 impl Moment {
@@ -43,7 +45,7 @@ impl Step {
 }
 
 // A sheet's trailer: how many facts, actions, rules, start clauses and goal clauses; the horizon; the bytes back to the body.
-#[derive(Drop)]
+#[derive(Clone, Copy)]
 pub struct Trailer {
     pub facts: usize,
     pub actions: usize,
@@ -55,14 +57,14 @@ pub struct Trailer {
 }
 
 // A variable of T(P), or its opposite.
-#[derive(Drop)]
+#[derive(Clone, Copy)]
 pub struct Lit {
     pub var: u32,
     pub sign: bool,
 }
 
 // A row of a circuit: children are row numbers; a choice has its variable, then the side where that is true.
-#[derive(Drop)]
+#[derive(Clone, Copy)]
 pub enum Row {
     False,
     True,
@@ -72,7 +74,7 @@ pub enum Row {
 }
 
 // What one step comes to.
-#[derive(Drop)]
+#[derive(Clone, Copy)]
 pub enum Stepped {
     Ran(u16),
     NeedUnmet,
@@ -80,7 +82,7 @@ pub enum Stepped {
 }
 
 // A schedule from a state: steps done, the state reached, and whether no step failed.
-#[derive(Drop)]
+#[derive(Clone, Copy)]
 pub struct Run {
     pub done: usize,
     pub state: u16,
@@ -88,7 +90,7 @@ pub struct Run {
 }
 
 // What refuses a call and leaves every buffer but the answer untouched. Three know a place.
-#[derive(Drop)]
+#[derive(Clone, Copy)]
 pub enum Fault {
     Unmarked,
     Unbounded,
@@ -101,21 +103,21 @@ pub enum Fault {
 }
 
 // Check: how many of the states are starts.
-#[derive(Drop)]
+#[derive(Clone, Copy)]
 pub enum Checked {
     Refused(Fault),
     Starts(u32),
 }
 
 // Run: steps done, the state reached, the goal.
-#[derive(Drop)]
+#[derive(Clone, Copy)]
 pub enum Ended {
     Refused(Fault),
     Went(u32, u16, bool),
 }
 
 // A circuit under its two limits: effort above its limit; rows above room, with the effort; effort, rows, root.
-#[derive(Drop)]
+#[derive(Clone, Copy)]
 pub enum Built {
     TooMuch,
     NoRoom(u32),
@@ -123,21 +125,21 @@ pub enum Built {
 }
 
 // Compile.
-#[derive(Drop)]
+#[derive(Clone, Copy)]
 pub enum Compiled {
     Refused(Fault),
     Answered(Built),
 }
 
 // Judge: the root's value.
-#[derive(Drop)]
+#[derive(Clone, Copy)]
 pub enum Judged {
     Refused(Fault),
     Value(bool),
 }
 
 // Plan: the horizon, then as in `Built`.
-#[derive(Drop)]
+#[derive(Clone, Copy)]
 pub enum Planned {
     Refused(Fault),
     TooMuch(u32),

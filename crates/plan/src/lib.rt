@@ -1,4 +1,6 @@
 // The operation plan: horizons in order, both limits afresh at each; the first that gives 7, 8 or a schedule ends it.
+#![tactic(auto)]
+
 ghost use Rattle.std.specs.Prelude.{◌≡◌, false, ◌++◌, ◌≤◌, length, take, drop};
 ghost use Rattle.paper.specs.Sheet as paper;
 ghost use Rattle.paper.specs.Operations as operation;
@@ -12,7 +14,7 @@ use seek::Found;
 use sheet::Reading;
 
 // A horizon that was tried: what compile answered, and what the search found in a whole circuit.
-#[derive(Drop)]
+#[derive(Clone, Copy)]
 pub struct Tried {
     pub built: Built,
     pub found: Found,

@@ -1,11 +1,11 @@
 -- An outcome has as many entries as its answer says, and they stand in front in the schedule buffer. Assumes nothing.
-use mathlib.Core.Path.{◌≡◌, refl, sym, ap, ◌∙◌, subst}
+use mathlib.Core.Path.{◌≡◌, refl, sym, ap, ◌∙◌}
 use mathlib.Core.Bool.{Bool, true, false, cond}
 use mathlib.Core.List.{List, [], ◌∷◌, ◌++◌}
 use mathlib.Core.Option.{Option, none, some}
 use Prim.Native.Nat.{ℕ, zero, suc, ◌+◌, ◌/◌, min, ◌≤◌, ◌<◌}
 use native.Mathlib.Omega.{arith}
-use lib.Dec.{leb, ltb}
+use lib.Dec.{leb}
 use lib.ListN.{length, get_or, take, drop, replicate, length-append, length-replicate}
 use lib.Seq.{take_at}
 use borrow.Author.Tests.{leb-true, lt-ltb, le-ltb}
@@ -19,7 +19,6 @@ use Rattle.paper.specs.Circuit.{Table, built_of}
 use Rattle.paper.specs.Operations.{on_sheet, row_size, room, Schedule, valid, First, first_plan, Outcome, stopped, searched, at_horizon, no_plan, plan_from, plan_starts, plan_sheet, plan_of}
 use Rattle.paper.specs.Answers.{plan_code, plan_numbers, plan_schedule}
 use Rattle.paper.specs.Program.{line, plan_line, printed}
-use Rattle.paper.proofs.Basic.{by}
 use Rattle.paper.proofs.FirstSchedule.{schedules_first}
 use Rattle.paper.proofs.Passes.{valid_fits}
 use Rattle.line.specs.Written.{Writes}

@@ -1,4 +1,6 @@
 // The program's job on slices: the bytes that it read, and the line that it prints for them.
+#![tactic(auto)]
+
 ghost use Rattle.std.specs.Prelude.{◌≡◌, ◌++◌, ◌≤◌, length, drop};
 ghost use Rattle.paper.specs.Operations as operation;
 ghost use Rattle.paper.specs.Program as paper;

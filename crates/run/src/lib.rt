@@ -1,4 +1,6 @@
 // One step, a schedule from a state, and the operation run.
+#![tactic(auto)]
+
 ghost use Rattle.std.specs.Prelude.{◌≡◌, true, not, ◌&&◌, ◌||◌, List, [], ℕ, ◌-◌, ◌^◌, ◌≤◌, ◌<◌, length, get_or, leb};
 ghost use Rattle.paper.specs.Counting.{bit, some_below};
 ghost use Rattle.paper.specs.Lists.{all};

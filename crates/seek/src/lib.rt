@@ -1,4 +1,6 @@
 // The planner's search: a step's entries in order, then one step fewer left; a prefix that cannot succeed from every start is dropped.
+#![tactic(auto)]
+
 ghost use Rattle.std.specs.Prelude.{◌+◌, ◌≤◌, ◌≡◌, length, take};
 ghost use Rattle.paper.specs.Sheet as paper;
 ghost use Rattle.paper.specs.Operations as operation;
@@ -10,7 +12,7 @@ ghost use Rattle.seek.specs.Seeking.{Says};
 use paper::Trailer;
 
 // A schedule, if one was found.
-#[derive(Drop)]
+#[derive(Clone, Copy)]
 pub struct Found {
     pub ok: bool,
     pub schedule: [u8; 8],

@@ -1,4 +1,6 @@
 // A sheet's bytes: refused by 1, 2, 3 or 4 exactly as document 01 says, or accepted, with its trailer and its rows decoded.
+#![tactic(auto)]
+
 ghost use Rattle.std.specs.Prelude.{◌≡◌, not, ◌+◌, ◌*◌, ◌≤◌, ◌<◌, length};
 ghost use Rattle.paper.specs.Lists.{filter};
 ghost use Rattle.paper.specs.Sheet as paper;
@@ -8,7 +10,7 @@ ghost use Rattle.sheet.specs.Reading as spec;
 use paper::{Fault, Trailer};
 
 // The kinds of rows: of two masks that may not overlap, of an action and two such pairs, of two masks.
-#[derive(Drop)]
+#[derive(Clone, Copy)]
 pub enum Part {
     Needs,
     Rules,
@@ -16,14 +18,14 @@ pub enum Part {
 }
 
 // An offset, where there is one.
-#[derive(Drop)]
+#[derive(Clone, Copy)]
 pub enum Found {
     At(u32),
     Nothing,
 }
 
 // What reading a sheet comes to.
-#[derive(Drop)]
+#[derive(Clone, Copy)]
 pub enum Reading {
     Refused(Fault),
     Accepted(Trailer),

@@ -1,8 +1,10 @@
 // The text of cases: lines, and the numbers in them; used by the programs of cases alone.
+#![tactic(auto)]
+
 ghost use Rattle.std.specs.Prelude.{◌<◌, ◌≤◌, length};
 
 // A number that was read, and the place behind it.
-#[derive(Drop)]
+#[derive(Clone, Copy)]
 pub struct Word {
     pub value: u32,
     pub end: usize,
@@ -13,18 +15,10 @@ pub fn find(text: &[u8], from: usize, b: u8) -> usize
     requires { from ≤ length text.now }
     ensures { (from ≤ result) × (result ≤ length text.now) }
 {
-    let mut i = from;
-    while i < text.len() {
-        if text[i] == b {
-            return i;
-        }
-        i = i + 1;
-    }
-    i
-}
-
-fn is_digit(b: u8) -> bool {
-    (b'0' <= b) & (b <= b'9')
+    text[from..]
+        .iter()
+        .position(|x| *x == b)
+        .map_or(text.len(), |i| from + i)
 }
 
 // The first digit from a place on, or the end.
@@ -32,14 +26,10 @@ pub fn find_digit(text: &[u8], from: usize) -> usize
     requires { from ≤ length text.now }
     ensures { (from ≤ result) × (result ≤ length text.now) }
 {
-    let mut i = from;
-    while i < text.len() {
-        if is_digit(text[i]) {
-            return i;
-        }
-        i = i + 1;
-    }
-    i
+    text[from..]
+        .iter()
+        .position(|x| x.is_ascii_digit())
+        .map_or(text.len(), |i| from + i)
 }
 
 // A digit more, while the number is below 2^32.
@@ -55,14 +45,13 @@ pub fn number(text: &[u8], from: usize) -> Word
     requires { from < length text.now }
     ensures { (from < result.end) × (result.end ≤ length text.now) }
 {
-    let mut n = more(0, text[from]);
-    let mut i = from + 1;
-    while i < text.len() && is_digit(text[i]) {
-        n = more(n, text[i]);
-        i = i + 1;
-    }
+    let end = text[from + 1..]
+        .iter()
+        .position(|x| !x.is_ascii_digit())
+        .map_or(text.len(), |i| from + 1 + i);
+    let n = text[from..end].iter().fold(0, |n, digit| more(n, *digit));
     Word {
         value: (n % 4294967296) as u32,
-        end: i,
+        end,
     }
 }

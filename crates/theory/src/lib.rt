@@ -1,4 +1,6 @@
 // The clause maker: T(P) of a sheet at a horizon, in the order of request E2, literals by variable, in two flat arrays.
+#![tactic(auto)]
+
 ghost use Rattle.std.specs.Prelude.{◌≡◌, true, false, not, ◌&&◌, List, [], ◌∷◌, ◌++◌, map, ℕ, ◌+◌, ◌-◌, ◌*◌, ◌≤◌, ◌<◌, ltb, length, get_or, drop};
 ghost use Rattle.paper.specs.Lists.{only};
 ghost use Rattle.paper.specs.Counting.{bit, before, after};
@@ -13,7 +15,7 @@ ghost use Rattle.theory.specs.Making as spec;
 use paper::{Moment, Step, Trailer};
 
 // How much of the two arrays is filled.
-#[derive(Drop)]
+#[derive(Clone, Copy)]
 pub struct Filled {
     pub literals: u16,
     pub clauses: u16,

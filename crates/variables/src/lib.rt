@@ -1,4 +1,6 @@
 // How the variables of T(P) are numbered: the one place that knows. Facts are asked for by moment, actions and z by step.
+#![tactic(auto)]
+
 ghost use Rattle.std.specs.Prelude.{◌≡◌, ℕ, ◌+◌, ◌*◌, ◌≤◌, ◌<◌};
 ghost use Rattle.paper.specs.Sheet.{Sheet, Bounded};
 ghost use Rattle.paper.specs.Clauses as clauses;
@@ -7,7 +9,7 @@ ghost use Rattle.variables.specs.Numbering as spec;
 use paper::{Moment, Step, Trailer};
 
 // What judge takes a variable for: a fact of moment 0, an action of a step, or another one.
-#[derive(Drop)]
+#[derive(Clone, Copy)]
 pub enum Meaning {
     Start(usize),
     Action(Step, usize),

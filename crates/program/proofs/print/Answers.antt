@@ -1,0 +1,21 @@
+use Rattle.program.proofs.Laws.{printed_in}
+use Rattle.line.proofs.Laws.{writes_as}
+use Rattle.program.proofs.Laws.{printed_long, printed_plan}
+use borrow.Author.Rules.{rules}
+use Rattle.program.proofs.print.Goals as goal
+
+pub returns-then-input-gt4608 : goal.returns-then-input-gt4608
+returns-then-input-gt4608 c = let h = printed_in _ _ _ _ (writes_as (printed_long c.args.input.now c.if-input-gt4608.true) c.line.ensures) in
+    record {
+      printed = h.0;
+      length = h.1.0;
+      fits = h.1.1;
+    }
+
+pub returns : goal.returns
+returns c = let h = printed_in _ _ _ _ (writes_as (printed_plan c.args.input.now (search rules)) c.plan_line.ensures) in
+    record {
+      printed = h.0;
+      length = h.1.0;
+      fits = h.1.1;
+    }

@@ -1,0 +1,20 @@
+use native.Mathlib.Omega.{arith}
+use Rattle.theory.proofs.Laws.{adds_start, adds_more, adds_all}
+use Rattle.theory.proofs.Parts.{adds_as, frame_part, frames_are, adds_frames}
+use borrow.Author.Rules.{rules}
+use Rattle.theory.proofs.frames_of_step.Goals as goal
+
+pub loop-k-init : goal.loop-k-init
+loop-k-init c = (search rules, search rules, search rules, λ p n needs h w. adds_start _)
+
+pub loop-k-preserved : goal.loop-k-preserved
+loop-k-preserved c = let l = c.loop-k in (
+  search rules,
+  search rules,
+  search rules,
+  λ p n needs h w.
+      adds_more l.k (frame_part p n _) (l.invariant.3 p n needs h w) (adds_frames p n _ needs _ _ _ w (c.frames_of-so.ensures p n h)),
+)
+
+pub returns : goal.returns
+returns c = let l = c.loop-k in λ p n needs h w. adds_as (frames_are p n _) (adds_all _ l.k _ (frame_part p n _) h.facts_are l.invariant.0 (omega arith) (l.invariant.3 p n needs h w))

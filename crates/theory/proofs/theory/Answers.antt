@@ -1,0 +1,22 @@
+use native.Mathlib.Omega.{arith}
+use Rattle.theory.proofs.Parts.{sheet_acts, theory_stored}
+use borrow.Author.Rules.{rules}
+use Rattle.theory.proofs.theory.Goals as goal
+
+pub steps-requires : goal.steps-requires
+steps-requires c = let q = c.requires in (q.0.bounds, q.2, sheet_acts _ _ _ _ _ _ _ q.1 q.2 c.starts_at.ensures c.goals_at.ensures c.needs-needs.ensures c.rules-rules.ensures)
+
+pub shape_of-literals : goal.shape_of-literals
+shape_of-literals c = search rules
+
+pub shape_of-ends : goal.shape_of-ends
+shape_of-ends c = search rules
+
+pub returns : goal.returns
+returns c = let q = c.requires in
+    let h = theory_stored _ _ _ _ _ _ _ q.1 q.2 c.starts_at.ensures c.goals_at.ensures c.needs-needs.ensures c.rules-rules.ensures
+    (let s = shape_of-literals c in let k = q.3 in omega arith) (let s = shape_of-ends c in let k = q.4 in omega arith) c.clauses_at-start.ensures c.clauses_at-goal.ensures c.steps.ensures in
+    record {
+      stored = h.stored;
+      behind = (h.literals_behind, h.ends_behind);
+    }
