@@ -45,7 +45,7 @@ asked_of b n limit buf s masks =
     let j = judge_left b n c.rows (told_at c.answer 3) (told_at c.answer 4) s masks eight in
     record { compiled = c.code; judged = j.code; value = told_at j.answer 1 }
 
--- demand 3: a compile that answered 0 had a well_formed sheet and a horizon up to 8; judge then answers 0 in any state with any marks, and its value is 1
+-- demand 3: a compile that answered 0 had a well-formed sheet and a horizon up to 8; judge then answers 0 in any state with any marks, and its value is 1
 -- if the state is a start, no step has two actions and the run ends in the goal, else 0
 pub record Demand3 (b : List ℕ) (n s : ℕ) (masks : List ℕ) (r : Asked) : Type 0 where
   pub well_formed : r.compiled ≡ 0 → (p : Sheet) × (decode b ≡ decoded p) × (n ≤ 8)

@@ -106,7 +106,7 @@ module _ (b : List ℕ) (n limit : ℕ) (buf slice : List ℕ) (wide : 20 ≤ le
   unfolding compile_left
   whole_0 = code_0 (compile_of b n limit (room buf)) zero
 
-  -- had a well_formed sheet and a horizon up to 8
+  -- had a well-formed sheet and a horizon up to 8
   pub accepted_0 : (p : Sheet) × (decode b ≡ decoded p) × (n ≤ 8)
   unfolding compile_of
   accepted_0 = by_decoded (decode b) refl

@@ -1,4 +1,4 @@
--- The circuit of T(P) in a buffer: what an answered compile leaves there, of any well_formed sheet. Assumes nothing.
+-- The circuit of T(P) in a buffer: what an answered compile leaves there, of any well-formed sheet. Assumes nothing.
 use mathlib.Core.Path.{◌≡◌, sym, ap, ◌∙◌}
 use mathlib.Core.Bool.{true, not, ◌&&◌}
 use mathlib.Core.List.{List, []}

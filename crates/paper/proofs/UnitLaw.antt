@@ -1,4 +1,4 @@
--- The one_literal clause that is taken is the lowest, positive first: no other has a lower rank. Assumes nothing.
+-- The one-literal clause that is taken is the lowest, positive first: no other has a lower rank. Assumes nothing.
 use mathlib.Core.Path.{◌≡◌, refl, sym, ap, ◌∙◌, subst}
 use mathlib.Core.Logic.{◌≢◌}
 use mathlib.Core.Bool.{Bool, true, false, cond, ◌&&◌}
@@ -44,14 +44,14 @@ ahead_f l m h =
     (λ e. let s : l.sign ≡ false = sym (ap (λ b. b && l.sign) e) ∙ f.1 in let z = ap low s in let v = eqb-true l.var m.var e in omega arith)
     (λ e. let d : l.var ≢ m.var = λ q. never (subst (λ x. eqb l.var x ≡ true) q (eqb_same l.var)) e in omega arith)
 
--- no one_literal clause of S ranks below l
+-- no one-literal clause of S ranks below l
 abbrev pub Lowest : Lit → Clauses → Type 0
 Lowest l [] = Unit {0}
 Lowest l ([] ∷ S) = Lowest l S
 Lowest l ((k ∷ []) ∷ S) = (rank l ≤ rank k) × Lowest l S
 Lowest l ((k ∷ (j ∷ c)) ∷ S) = Lowest l S
 
--- S has no one_literal clause
+-- S has no one-literal clause
 abbrev pub NoUnit : Clauses → Type 0
 NoUnit [] = Unit {0}
 NoUnit ([] ∷ S) = NoUnit S
@@ -97,7 +97,7 @@ skip_long : (k j : Lit) (c : Clause) (S : Clauses) (o : Option Lit) → Chosen S
 skip_long k j c S none h = h
 skip_long k j c S (some l) h = h
 
--- what is taken stands alone in a clause, and no one_literal clause ranks below it; nothing is taken only where there is none
+-- what is taken stands alone in a clause, and no one-literal clause ranks below it; nothing is taken only where there is none
 pub chosen : (S : Clauses) → Chosen S (unit S)
 chosen [] = tt
 chosen ([] ∷ S) = skip S (unit S) (chosen S)

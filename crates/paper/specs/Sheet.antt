@@ -181,7 +181,7 @@ is_goal p s = all (holds_in p.F s) p.goals
 unfoldable pub start_count : Sheet → ℕ
 start_count p = count_below (2 ^ p.F) (is_start p)
 
--- what decode ensures of a sheet: a well_formed one
+-- what decode ensures of a sheet: a well-formed one
 pub record Fine (p : Sheet) : Type 0 where
   pub facts_least : 1 ≤ p.F
   pub facts_most : p.F ≤ 12

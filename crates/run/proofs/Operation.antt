@@ -22,7 +22,7 @@ use Rattle.sheet.specs.Reading.{reading_of}
 use Rattle.sheet.proofs.Laws.{taken, not_taken}
 use Rattle.run.proofs.Laws.{entry_fits}
 
--- a call that is not refused, of a well_formed sheet
+-- a call that is not refused, of a well-formed sheet
 pub record Good (p : Sheet) (s : ℕ) (σ : List ℕ) : Type 0 where
   pub state_fits : s < 2 ^ p.F
   pub small : s < 65536
