@@ -31,16 +31,21 @@ fn at_most(n: usize, most: usize) -> usize
     if n < most { n } else { most }
 }
 
-// A case of compile: horizon, limit, and the length of its row buffer, of at most two rows more than 65,536. A line of the answer, and
-// one of the rows.
-fn try_compile<R: Print + AllocGlobal>(rt: &R, g: Given, label: &[u8]) -> io::Result<()> {
-    let call = g.call;
-    let mut rows = fresh(rt.alloc(), at_most(call[2] as usize, 1048608))?;
+// A case of compile with the row buffer that is lent: a line of the answer, and one of the rows.
+fn compile_rows(rt: &impl Print, g: Given, label: &[u8], rows: &mut [u8]) -> io::Result<()> {
     let mut answer = [0xEEu8; 24];
     let n = at_most(g.into, 24);
-    let code = compile_into(g, &mut rows, &mut answer[0..n]);
+    let code = compile_into(g, rows, &mut answer[0..n]);
     line(rt, label, n, code, &answer)?;
-    line_rows(rt, &rows)
+    line_rows(rt, rows)
+}
+
+// A case of compile: horizon, limit, and the length of its row buffer, the front of one with two rows more than 65,536.
+fn try_compile<R: Print + AllocGlobal>(rt: &R, g: Given, label: &[u8]) -> io::Result<()> {
+    let mut all = fresh(rt.alloc())?;
+    let call = g.call;
+    let n = at_most(call[2] as usize, 1048608);
+    compile_rows(rt, g, label, &mut all[..n])
 }
 
 // Plan of what is given, into a row buffer, a schedule buffer and an answer slice.
@@ -51,30 +56,38 @@ fn plan_into(g: Given, rows: &mut [u8], schedule: &mut [u8], answer: &mut [u8]) 
     bringup::bringup_plan(lent(&s, sheet.end), call[0], rows, schedule, answer)
 }
 
-// A case of plan: limit, the length of its row buffer, and that of its schedule buffer, the front of one of 12 bytes. Lines of the
-// answer, of the schedule buffer and of the rows.
-fn try_plan<R: Print + AllocGlobal>(rt: &R, g: Given, label: &[u8]) -> io::Result<()> {
-    let call = g.call;
-    let mut rows = fresh(rt.alloc(), at_most(call[1] as usize, 1048608))?;
+// A case of plan with the row buffer that is lent: lines of the answer, of the schedule buffer and of the rows.
+fn plan_rows(rt: &impl Print, g: Given, label: &[u8], rows: &mut [u8]) -> io::Result<()> {
     let mut answer = [0xEEu8; 24];
     let mut schedule = [0xEEu8; 12];
     let n = at_most(g.into, 24);
+    let call = g.call;
     let m = at_most(call[2] as usize, 12);
-    let code = plan_into(g, &mut rows, &mut schedule[0..m], &mut answer[0..n]);
+    let code = plan_into(g, rows, &mut schedule[0..m], &mut answer[0..n]);
     line(rt, label, n, code, &answer)?;
     line_schedule(rt, &schedule)?;
-    line_rows(rt, &rows)
+    line_rows(rt, rows)
+}
+
+// A case of plan: limit, the length of its row buffer, and that of its schedule buffer, the front of one of 12 bytes.
+fn try_plan<R: Print + AllocGlobal>(rt: &R, g: Given, label: &[u8]) -> io::Result<()> {
+    let mut all = fresh(rt.alloc())?;
+    let call = g.call;
+    let n = at_most(call[1] as usize, 1048608);
+    plan_rows(rt, g, label, &mut all[..n])
 }
 
 // A case of the program: so many zero bytes, then the sheet; the line that it prints for them.
-fn try_print<R: Print + AllocGlobal>(rt: &R, g: Given, label: &[u8]) -> io::Result<()> {
+fn try_print(rt: &impl Print, g: Given, label: &[u8]) -> io::Result<()> {
+    let mut input = [0u8; 5121];
     let call = g.call;
     let sheet = g.sheet;
     let bytes = sheet.all;
-    let mut input = vec![in rt.alloc(); 0u8; at_most(call[0] as usize, 4609)]?;
-    input.extend_from_slice(lent(&bytes, sheet.end))?;
+    let front = at_most(call[0] as usize, 4609);
+    let n = at_most(sheet.end, 512);
+    input[front..front + n].copy_from_slice(&bytes[..n]);
     let mut out = [0u8; 128];
-    let end = program::print(&input, &mut out);
+    let end = program::print(&input[..front + n], &mut out);
     rt.write_all(label)?;
     rt.write_all(b": ")?;
     rt.write_all(&out[0..end])

@@ -7,10 +7,12 @@ mod lines;
 mod tables;
 
 use std::io;
-use std::io::Read;
+
+// As much of the input is read.
+const MOST: usize = 65536;
 
 fn main(rt: HostRuntime) -> io::Result<()> {
-    let mut text = Vec::new(rt.alloc());
-    rt.reader().read_to_end(&mut text)?;
-    cases::try_all(&rt, &text)
+    let mut buf = [0u8; MOST];
+    let n = text::read_full(&mut rt.reader(), &mut buf)?;
+    cases::try_all(&rt, &buf[..n])
 }

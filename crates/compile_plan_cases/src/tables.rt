@@ -8,11 +8,11 @@ use std::io;
 // The byte that fills a row buffer when it is lent.
 const LENT: u8 = 0xEE;
 
-// A row buffer of n bytes, as it is lent.
-pub fn fresh(alloc: Global, n: usize) -> Result<Vec<u8>, AllocError>
-    ensures { IfOk result (λ v. vec_len v ≡ n) }
+// Bytes of which row buffers are the front, two rows more than 65,536; the `ensures` gives their number, which lending them needs.
+pub fn fresh(alloc: Global) -> Result<Vec<u8>, AllocError>
+    ensures { IfOk result (λ v. 1048608 ≡ vec_len v) }
 {
-    vec![in alloc; LENT; n]
+    vec![in alloc; LENT; 1048608]
 }
 
 // Where, of the first n bytes, those at the end begin that are b.

@@ -1,16 +1,12 @@
-// The program: a sheet from standard input, one line to standard output.
+// The program: a sheet from standard input, one line to standard output. A buffer one byte longer than the longest sheet tells it from longer input.
 #![tactic(auto)]
 
 use std::io;
-use std::io::Read;
-
-// One byte more than the longest sheet has, which tells it from longer input.
-const MOST: u64 = 4609;
 
 fn main(rt: HostRuntime) -> io::Result<()> {
-    let mut input = Vec::new(rt.alloc());
-    rt.reader().take(MOST).read_to_end(&mut input)?;
+    let mut input = [0u8; 4609];
+    let n = text::read_full(&mut rt.reader(), &mut input)?;
     let mut out = [0u8; 128];
-    let end = program::print(&input, &mut out);
+    let end = program::print(&input[..n], &mut out);
     rt.write_all(&out[..end])
 }
