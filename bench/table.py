@@ -25,7 +25,7 @@ def print_table(library, plain, before):
     print('%-10s %-8s %4s %9s %6s %12s %16s' % ('sheet', '', 'at', 'effort', 'rows', 'to plain C', 'before, to this'))
     for key, lines in library.items():
         (horizon, code, effort, rows, _), taken = lines[-1]
-        peers, old = plain[key], before.get(key)
+        peers, old = plain[key], before[key] if before else None
         wrong += differ(lines, peers) or bool(old) and differ(lines, old)
         then = '%.1f' % (old[-1][1] / taken) if old else '-'
         print('%-10s %-8s %4d %9d %6d %12.2f %16s%s' % (*key, horizon, effort, rows, taken / peers[-1][1], then,
