@@ -35,9 +35,9 @@ sheet_d =
     }
 
 -- its bytes say that sheet
-pub D-is : decode D ≡ decoded sheet_d
+pub d_is : decode D ≡ decoded sheet_d
 unfolding computed_lists computed_counting computed_sheet
-D-is = refl
+d_is = refl
 
 -- the facts of moment 0 from the state s, all other variables from v
 abbrev pub from : ℕ → Assign → Assign
