@@ -1,11 +1,10 @@
 // The operations as C calls them, which `bringup_c` exports: numbers and byte slices in; the code returned, the numbers written into the answer slice.
-#![tactic(auto)]
+#![tactic(auto, unfolding(paper::specs::Answers::check_left, paper::specs::Answers::run_left, paper::specs::Answers::compile_left, paper::specs::Answers::judge_left, paper::specs::Answers::plan_left))]
 
 ghost use Rattle.std.specs.Prelude.{◌≡◌};
 ghost use Rattle.paper.specs.Answers.{check_left, run_left, compile_left, judge_left, plan_left};
 
 // Check: place and count into the answer.
-#[tactic(auto, unfolding(paper::specs::Answers::check_left))]
 pub fn bringup_check(sheet: &[u8], answer: &mut [u8]) -> u32
     ensures code { result ≡ (check_left sheet.now answer.old).code }
     ensures written { answer.new ≡ (check_left sheet.now answer.old).answer }
@@ -13,11 +12,10 @@ pub fn bringup_check(sheet: &[u8], answer: &mut [u8]) -> u32
     let c = starts::check(sheet);
     let numbers = answers::check_numbers(c);
     bits::tell(answer, &numbers);
-    answers::check_code(c)
+    answers::code(c)
 }
 
 // Run: place, steps done, the state reached and the goal into the answer.
-#[tactic(auto, unfolding(paper::specs::Answers::run_left))]
 pub fn bringup_run(sheet: &[u8], state: u32, schedule: &[u8], answer: &mut [u8]) -> u32
     ensures code { result ≡ (run_left sheet.now state schedule.now answer.old).code }
     ensures written { answer.new ≡ (run_left sheet.now state schedule.now answer.old).answer }
@@ -25,11 +23,10 @@ pub fn bringup_run(sheet: &[u8], state: u32, schedule: &[u8], answer: &mut [u8])
     let e = run::run(sheet, state, schedule);
     let numbers = answers::run_numbers(e);
     bits::tell(answer, &numbers);
-    answers::run_code(e)
+    answers::code(e)
 }
 
 // Compile: place, horizon, effort, rows and root into the answer, the circuit into the rows.
-#[tactic(auto, unfolding(paper::specs::Answers::compile_left))]
 pub fn bringup_compile(
     sheet: &[u8],
     horizon: u32,
@@ -48,7 +45,6 @@ pub fn bringup_compile(
 }
 
 // Judge: place and the root's value into the answer.
-#[tactic(auto, unfolding(paper::specs::Answers::judge_left))]
 pub fn bringup_judge(
     sheet: &[u8],
     horizon: u32,
@@ -65,11 +61,10 @@ pub fn bringup_judge(
     let j = judge::judge(sheet, horizon, rows, count, root, state, masks);
     let numbers = answers::judge_numbers(j);
     bits::tell(answer, &numbers);
-    answers::judge_code(j)
+    answers::code(j)
 }
 
 // Plan: place, horizon, effort, rows and root into the answer, the last circuit into the rows, on 0 the entries into the schedule.
-#[tactic(auto, unfolding(paper::specs::Answers::plan_left))]
 pub fn bringup_plan(
     sheet: &[u8],
     limit: u32,

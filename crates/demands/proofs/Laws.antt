@@ -6,7 +6,7 @@ use mathlib.Core.List.{List, []}
 use Prim.Native.Nat.{ℕ}
 use native.Mathlib.Omega.{arith}
 use Rattle.paper.specs.declared.Built.{Built}
-use Rattle.paper.specs.declared.Compiled.{Compiled}
+use Rattle.std.specs.Prelude.{Ok}
 use Rattle.paper.specs.Lists.{elem}
 use Rattle.paper.specs.Sheet.{Sheet, Fine, fits}
 use Rattle.paper.specs.Clauses.{Clauses, theory}
@@ -37,13 +37,13 @@ stored_runs p fine n h s ms w =
 -- a whole circuit is read back from the table, and it is the projection
 pub built_projects : (literals ends T U : List ℕ) (limit : ℕ) (r : Built) → Sound literals ends
     → r ≡ built_of limit (room T) (clauses_of literals ends)
-    → U ≡ compile_rows (compile (clauses_of literals ends)).table T (Compiled.Answered r)
+    → U ≡ compile_rows (compile (clauses_of literals ends)).table T (Ok r)
     → Projects (clauses_of literals ends) U r
 built_projects literals ends T U limit r sound built filled e rows root whole keeps k =
     let S : Clauses = clauses_of literals ends in
     let a = answered limit (room T) S e rows root (sym built ∙ whole) in
     let fit = sound_fits (λ y. elem y (vars S)) (λ y h. let l = vars_below literals ends sound y h in omega arith) (compile S).table (let l = a.within_room in let m = room_most T in omega arith) (table_fine S) in
-    let left = filled ∙ ap (λ x. compile_rows (compile S).table T (Compiled.Answered x)) whole in
+    let left = filled ∙ ap (λ x. compile_rows (compile S).table T (Ok x)) whole in
     let table_is : table_of U rows ≡ (compile S).table = (λ i. table_of (left i) (sym a.rows_are i)) ∙ filled_read (compile S).table fit T in
     subst (λ t. (value_at (shown keeps k) t root ≡ true) ↔ Extends keeps k S) (sym table_is)
     (subst (λ i. (value_at (shown keeps k) (compile S).table i ≡ true) ↔ Extends keeps k S) a.root_is (row_theorem S keeps k))

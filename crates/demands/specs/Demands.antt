@@ -1,10 +1,10 @@
 -- What is demanded of the circuit, in the words of `paper`: of the clauses that stand in arrays, of the rows that compile leaves, of the answers that C gets.
 -- Assumes nothing.
-use Rattle.std.specs.Prelude.{◌≡◌, ◌↔◌, Bool, true, cond, List, map, ℕ, ◌*◌, ◌^◌, ◌≤◌, ◌<◌, length, replicate}
+use Rattle.std.specs.Prelude.{◌≡◌, ◌↔◌, Bool, true, cond, List, map, ℕ, ◌*◌, ◌^◌, ◌≤◌, ◌<◌, length, replicate, Ok}
 use Rattle.paper.specs.declared.Built.{Built}
 use Rattle.paper.specs.declared.Built.TheVariants.{Whole}
 use Rattle.paper.specs.Lists.{all, up_from}
-use Rattle.paper.specs.Sheet.{Sheet, decoded, fits, decode}
+use Rattle.paper.specs.Sheet.{Sheet, fits, decode}
 use Rattle.paper.specs.Clauses.{Clauses, Assign}
 use Rattle.paper.specs.Circuit.{value_at}
 use Rattle.paper.specs.Operations.{kept, given, table_of, masks_of}
@@ -48,6 +48,6 @@ asked_of b n limit buf s masks =
 -- demand 3: a compile that answered 0 had a well-formed sheet and a horizon up to 8; judge then answers 0 in any state with any marks, and its value is 1
 -- if the state is a start, no step has two actions and the run ends in the goal, else 0
 pub record Demand3 (b : List ℕ) (n s : ℕ) (masks : List ℕ) (r : Asked) : Type 0 where
-  pub well_formed : r.compiled ≡ 0 → (p : Sheet) × (decode b ≡ decoded p) × (n ≤ 8)
-  pub answers : r.compiled ≡ 0 → (p : Sheet) → decode b ≡ decoded p → s < 2 ^ p.F → length masks ≡ 2 * n → all (fits p.A) (masks_of masks n) ≡ true
+  pub well_formed : r.compiled ≡ 0 → (p : Sheet) × (decode b ≡ Ok p) × (n ≤ 8)
+  pub answers : r.compiled ≡ 0 → (p : Sheet) → decode b ≡ Ok p → s < 2 ^ p.F → length masks ≡ 2 * n → all (fits p.A) (masks_of masks n) ≡ true
       → (r.judged ≡ 0) × (r.value ≡ cond (leads p s (masks_of masks n)) 1 0)

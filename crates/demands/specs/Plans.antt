@@ -1,9 +1,9 @@
 -- What is demanded of the planner, in the words of `paper`, of the answer that C gets.
 -- Assumes nothing.
-use Rattle.std.specs.Prelude.{◌≡◌, ◌↔◌, true, false, List, [], ◌∷◌, ℕ, suc, ◌^◌, ◌≤◌, ◌<◌, length, take}
+use Rattle.std.specs.Prelude.{◌≡◌, ◌↔◌, true, false, List, [], ◌∷◌, ℕ, suc, ◌^◌, ◌≤◌, ◌<◌, length, take, Ok}
 use Rattle.std.proofs.Math.Option.{some}
 use Rattle.paper.specs.Lists.{elem}
-use Rattle.paper.specs.Sheet.{Sheet, decoded, decode, is_start}
+use Rattle.paper.specs.Sheet.{Sheet, decode, is_start}
 use Rattle.paper.specs.Step.{is_plan}
 use Rattle.paper.specs.Clauses.{theory}
 use Rattle.paper.specs.Circuit.{compile, effort}
@@ -54,6 +54,6 @@ module _ (p : Sheet) (limit k : ℕ) where
 
 -- demand 2: of any bytes b, an effort limit, k rows of room and a schedule buffer that had so many bytes and holds these now
 pub record Demand2 (b : List ℕ) (limit k bytes : ℕ) (r : Told) (schedule : List ℕ) : Type 0 where
-  pub short : (p : Sheet) → decode b ≡ decoded p → bytes < p.H → r.code ≡ 5
-  pub no_start : (p : Sheet) → decode b ≡ decoded p → p.H ≤ bytes → ((s : ℕ) → s < 2 ^ p.F → is_start p s ≡ false) → r.code ≡ 6
-  pub planned : (p : Sheet) → decode b ≡ decoded p → p.H ≤ bytes → (s : ℕ) → s < 2 ^ p.F → is_start p s ≡ true → Tells p limit k r schedule
+  pub short : (p : Sheet) → decode b ≡ Ok p → bytes < p.H → r.code ≡ 5
+  pub no_start : (p : Sheet) → decode b ≡ Ok p → p.H ≤ bytes → ((s : ℕ) → s < 2 ^ p.F → is_start p s ≡ false) → r.code ≡ 6
+  pub planned : (p : Sheet) → decode b ≡ Ok p → p.H ≤ bytes → (s : ℕ) → s < 2 ^ p.F → is_start p s ≡ true → Tells p limit k r schedule

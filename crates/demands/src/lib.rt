@@ -1,51 +1,40 @@
 // What is demanded of the planner and of the circuit, over the promises of the functions that answer: each function here makes their calls and promises what they mean together.
 #![tactic(auto)]
 
-ghost use Rattle.std.specs.Prelude.{◌≡◌, [], ◌≤◌, length, drop};
-ghost use Rattle.paper.specs.declared.Compiled.TheVariants as compiled;
-ghost use Rattle.paper.specs.Sheet as paper;
+ghost use Rattle.std.specs.Prelude.{◌≡◌, [], ◌≤◌, length, drop, Ok};
 ghost use Rattle.paper.specs.Clauses as clauses;
 ghost use Rattle.paper.specs.Circuit as circuit;
 ghost use Rattle.paper.specs.Operations as operation;
 ghost use Rattle.paper.specs.Answers.{compile_left, compile_rows, plan_left};
-ghost use Rattle.sheet.specs.Reading.{Whole};
+ghost use Rattle.sheet.specs.Contents.{contents};
 ghost use Rattle.theory.specs.Flat.{Stored};
-ghost use Rattle.sets.specs.State as state;
+ghost use Rattle.sets.specs.Lent.{clauses_in};
 ghost use Rattle.demands.specs.Demands as spec;
 ghost use Rattle.demands.specs.Plans as plans;
 
-use paper::{Built, Trailer};
+use paper::Built;
+use sets::Clauses;
+use sheet::Sheet;
 use theory::Filled;
 
 // T(P) is the run: with a state and marks, the clauses in the arrays can be satisfied exactly if the run leads from a start to the goal.
-pub fn theory_is_the_run(
-    b: &[u8],
-    t: Trailer,
-    n: usize,
-    literals: &mut [u16],
-    ends: &mut [u16],
-) -> Filled
-    requires { Whole b.now t × paper.Fine (paper.sheet_of b.now t) × (n ≤ 8) × (18720 ≤ length literals.old) × (6896 ≤ length ends.old) }
-    ensures stored { Stored literals.new ends.new result (clauses.theory (paper.sheet_of b.now t) n) [] }
+pub fn theory_is_the_run(sheet: Sheet, n: usize, literals: &mut [u16], ends: &mut [u16]) -> Filled
+    requires { (n ≤ 8) × (18720 ≤ length literals.old) × (6896 ≤ length ends.old) }
+    ensures stored { Stored literals.new ends.new result (clauses.theory (contents sheet.entry) n) [] }
     ensures behind { (drop result.literals literals.new ≡ drop result.literals literals.old) × (drop result.clauses ends.new ≡ drop result.clauses ends.old) }
-    ensures runs { spec.Runs (paper.sheet_of b.now t) n literals.new ends.new result }
+    ensures runs { spec.Runs (contents sheet.entry) n literals.new ends.new result }
 {
-    theory::theory(b, t, n, literals, ends)
+    theory::theory(sheet, n, literals, ends)
 }
 
 // The circuit is the projection: with any variables forgotten, its root is true exactly if the values of the others extend to an assignment that satisfies the clauses.
-pub fn circuit_is_the_projection(
-    literals: &[u16],
-    ends: &[u16],
-    table: &mut [u8],
-    limit: u32,
-) -> Built
-    requires { state.Sound literals.now ends.now × (length literals.now ≤ 18720) × (length ends.now ≤ 6896) }
-    ensures built { result ≡ circuit.built_of limit (operation.room table.old) (state.clauses_of literals.now ends.now) }
-    ensures rows { table.new ≡ compile_rows (circuit.compile (state.clauses_of literals.now ends.now)).table table.old (compiled.Answered result) }
-    ensures projects { spec.Projects (state.clauses_of literals.now ends.now) table.new result }
+pub fn circuit_is_the_projection(clauses: Clauses, table: &mut [u8], limit: u32) -> Built
+    requires { (length clauses.literals.now ≤ 18720) × (length clauses.ends.now ≤ 6896) }
+    ensures built { result ≡ circuit.built_of limit (operation.room table.old) (clauses_in clauses.entry) }
+    ensures rows { table.new ≡ compile_rows (circuit.compile (clauses_in clauses.entry)).table table.old (Ok result) }
+    ensures projects { spec.Projects (clauses_in clauses.entry) table.new result }
 {
-    compile::compile_clauses(literals, ends, table, limit)
+    compile::compile_clauses(clauses, table, limit)
 }
 
 // What a call of plan answered: its code, and the numbers behind the place.
@@ -68,7 +57,7 @@ pub fn demand2(sheet: &[u8], limit: u32, rows: &mut [u8], schedule: &mut [u8]) -
     let mut told = [0u8; 20];
     let code = bringup::bringup_plan(sheet, limit, rows, schedule, &mut told);
     Told {
-        code: code,
+        code,
         horizon: bits::long(&told, 4),
         effort: bits::long(&told, 8),
         rows: bits::long(&told, 12),
@@ -115,8 +104,8 @@ pub fn demand3(
     );
     let value = bits::long(&answer, 4);
     Asked {
-        compiled: compiled,
-        judged: judged,
-        value: value,
+        compiled,
+        judged,
+        value,
     }
 }

@@ -9,18 +9,16 @@ use lib.Dec.{leb}
 use lib.ListN.{length, length-map}
 use borrow.Author.Tests.{leb-true, le-leb, lt-ltb, eq-eqb}
 use Rattle.paper.specs.declared.Built.{Built}
-use Rattle.paper.specs.declared.Compiled.{Compiled}
-use Rattle.paper.specs.declared.Judged.{Judged}
-use Rattle.paper.specs.declared.Ended.{Ended}
+use Rattle.std.specs.Prelude.{Ok, Err, Result}
 use Rattle.paper.specs.declared.Fault.{Fault}
 use Rattle.paper.specs.declared.Fault.TheVariants.{BadCall}
 use Rattle.paper.specs.Lists.{all, up_from}
-use Rattle.paper.specs.Sheet.{Sheet, Decoded, refused, decoded, word, fits, decode, Fine}
+use Rattle.paper.specs.Sheet.{Sheet, word, fits, decode, Fine}
 use Rattle.paper.specs.Step.{entries_fit, run, reaches}
 use Rattle.paper.specs.Clauses.{theory}
 use Rattle.paper.specs.Circuit.{Table, compile, built_of}
-use Rattle.paper.specs.Operations.{on_sheet, good_run, run_sheet, run_of, room, compile_sheet, compile_of, judge, masks_of, good_judge, judged_by, judge_sheet, judge_of}
-use Rattle.paper.specs.Answers.{fault_code, run_code, compile_code, judge_code, run_numbers, compile_numbers, judge_numbers, told, told_at, filled, compile_rows, Left, LeftRows, table_for, run_left, compile_left, judge_left}
+use Rattle.paper.specs.Operations.{◌>>=◌, on_sheet, good_run, run_sheet, run_of, room, compile_sheet, compile_of, judge, masks_of, good_judge, judged_by, judge_sheet, judge_of}
+use Rattle.paper.specs.Answers.{fault_code, code, compile_code, run_numbers, compile_numbers, judge_numbers, told, told_at, filled, compile_rows, Left, LeftRows, table_for, run_left, compile_left, judge_left}
 use Rattle.paper.specs.Sets.{leads}
 use Rattle.paper.specs.Planning.{Answered}
 use Rattle.paper.proofs.Basic.{and_i, by}
@@ -31,16 +29,16 @@ use Rattle.paper.proofs.Buffers.{room_most}
 use Rattle.paper.proofs.ReadBack.{sign_small, told_read}
 use Rattle.paper.proofs.Left.{same_room, root_low, two_rows, within_room, table_is, none_bad}
 
-compiled_whole : (n limit k : ℕ) (p : Sheet) (e rows root : ℕ) → compile_sheet n limit k p ≡ Compiled.Answered (Built.Whole e rows root) → (n ≤ 8) × (built_of limit k (theory p n) ≡ Built.Whole e rows root)
+compiled_whole : (n limit k : ℕ) (p : Sheet) (e rows root : ℕ) → compile_sheet n limit k p ≡ Ok (Built.Whole e rows root) → (n ≤ 8) × (built_of limit k (theory p n) ≡ Built.Whole e rows root)
 compiled_whole n limit k p e rows root h = by (leb n 8)
-    (λ x. let g : Compiled.Answered (built_of limit k (theory p n)) ≡ Compiled.Answered (Built.Whole e rows root) = rw x at h in (leb-true n 8 x, cc))
-    (λ x. let g : Compiled.Refused BadCall ≡ Compiled.Answered (Built.Whole e rows root) = rw x at h in let z : ◌≡◌ {A = ℕ} 0 1 = cc in absurd (omega arith))
+    (λ x. let g : Ok (built_of limit k (theory p n)) ≡ Ok (Built.Whole e rows root) = rw x at h in (leb-true n 8 x, cc))
+    (λ x. let g : Err BadCall ≡ Ok (Built.Whole e rows root) = rw x at h in let z : ◌≡◌ {A = ℕ} 0 1 = cc in absurd (omega arith))
 
-module _ (b : List ℕ) (p : Sheet) (d : decode b ≡ decoded p) (n limit : ℕ) (buf slice : List ℕ) (e rows root : ℕ)
-    (c : compile_of b n limit (room buf) ≡ Compiled.Answered (Built.Whole e rows root)) where
-  on_sheet_lem : compile_sheet n limit (room buf) p ≡ Compiled.Answered (Built.Whole e rows root)
+module _ (b : List ℕ) (p : Sheet) (d : decode b ≡ Ok p) (n limit : ℕ) (buf slice : List ℕ) (e rows root : ℕ)
+    (c : compile_of b n limit (room buf) ≡ Ok (Built.Whole e rows root)) where
+  on_sheet_lem : compile_sheet n limit (room buf) p ≡ Ok (Built.Whole e rows root)
   unfolding compile_of
-  on_sheet_lem = sym (ap (on_sheet Compiled.Refused (compile_sheet n limit (room buf))) d) ∙ c
+  on_sheet_lem = sym (ap (λ x. x >>= compile_sheet n limit (room buf)) d) ∙ c
 
   horizon : n ≤ 8
   horizon = (compiled_whole n limit (room buf) p e rows root on_sheet_lem).0
@@ -71,17 +69,17 @@ module _ (b : List ℕ) (p : Sheet) (d : decode b ≡ decoded p) (n limit : ℕ)
         and_i (lt-ltb s (2 ^ p.F) hs) (and_i (le-leb n 8 horizon) (and_i (eq-eqb (length masks) (2 * n) hm) (and_i ha (and_i (le-leb 2 rows w) (and_i (le-leb rows (room (filled table buf)) (omega arith)) (lt-ltb root rows l))))))
 
     -- it is answered by the circuit's value
-    pub judged_value : judge_of b n (compile_left b n limit buf slice).rows rows root s masks ≡ Judged.Value (judge p n (compile (theory p n)).table (compile (theory p n)).root s (masks_of masks n))
+    pub judged_value : judge_of b n (compile_left b n limit buf slice).rows rows root s masks ≡ Ok (judge p n (compile (theory p n)).table (compile (theory p n)).root s (masks_of masks n))
     unfolding judge_of
     judged_value =
-        ap (λ x. on_sheet Judged.Refused (judge_sheet n (compile_left b n limit buf slice).rows rows root s masks) x) d
+        ap (λ x. x >>= judge_sheet n (compile_left b n limit buf slice).rows rows root s masks) d
         ∙ ap (λ x. judge_sheet n x rows root s masks p) left_rows
         ∙ (λ i. judged_by (good i) (none_bad p sheet_fine n horizon limit buf e rows root whole i) (judge p n (table_is p sheet_fine n horizon limit buf e rows root whole i) (sym whole.root_is i) s (masks_of masks n)))
 
     -- demand 3, from the bytes lent to the bytes read
-    pub demand3_called : judge_of b n (compile_left b n limit buf slice).rows rows root s masks ≡ Judged.Value (leads p s (masks_of masks n))
+    pub demand3_called : judge_of b n (compile_left b n limit buf slice).rows rows root s masks ≡ Ok (leads p s (masks_of masks n))
     unfolding masks_of fits
-    demand3_called = judged_value ∙ ap Judged.Value (judge_leads p sheet_fine s hs (masks_of masks n) ha n (length-map (up_from 0 n) (λ i. word masks (2 * i)) ∙ length_count n 0))
+    demand3_called = judged_value ∙ ap Ok (judge_leads p sheet_fine s hs (masks_of masks n) ha n (length-map (up_from 0 n) (λ i. word masks (2 * i)) ∙ length_count n 0))
 
 -- only a whole circuit has code 0
 fault_not_0 : (f : Fault) → fault_code f ≡ 0 → ⊥
@@ -94,31 +92,31 @@ fault_not_0 Fault.NoStart h = omega arith
 fault_not_0 Fault.BadCall h = omega arith
 fault_not_0 (Fault.BadTable i) h = omega arith
 
-code_0 : (a : Compiled) → compile_code a ≡ 0 → (e : ℕ) × (rows : ℕ) × (root : ℕ) × (a ≡ Compiled.Answered (Built.Whole e rows root))
-code_0 (Compiled.Refused f) h = absurd (fault_not_0 f h)
-code_0 (Compiled.Answered Built.TooMuch) h = absurd (omega arith)
-code_0 (Compiled.Answered (Built.NoRoom e)) h = absurd (omega arith)
-code_0 (Compiled.Answered (Built.Whole e rows root)) h = (e, rows, root, refl)
+code_0 : (a : Result Built Fault) → compile_code a ≡ 0 → (e : ℕ) × (rows : ℕ) × (root : ℕ) × (a ≡ Ok (Built.Whole e rows root))
+code_0 (Err f) h = absurd (fault_not_0 f h)
+code_0 (Ok Built.TooMuch) h = absurd (omega arith)
+code_0 (Ok (Built.NoRoom e)) h = absurd (omega arith)
+code_0 (Ok (Built.Whole e rows root)) h = (e, rows, root, refl)
 
 -- a call of compile that returned 0, with an answer slice for its five numbers
 module _ (b : List ℕ) (n limit : ℕ) (buf slice : List ℕ) (wide : 20 ≤ length slice) (zero : (compile_left b n limit buf slice).code ≡ 0) where
-  whole_0 : (e : ℕ) × (rows : ℕ) × (root : ℕ) × (compile_of b n limit (room buf) ≡ Compiled.Answered (Built.Whole e rows root))
+  whole_0 : (e : ℕ) × (rows : ℕ) × (root : ℕ) × (compile_of b n limit (room buf) ≡ Ok (Built.Whole e rows root))
   unfolding compile_left
   whole_0 = code_0 (compile_of b n limit (room buf)) zero
 
   -- had a well-formed sheet and a horizon up to 8
-  pub accepted_0 : (p : Sheet) × (decode b ≡ decoded p) × (n ≤ 8)
+  pub accepted_0 : (p : Sheet) × (decode b ≡ Ok p) × (n ≤ 8)
   unfolding compile_of
   accepted_0 = by_decoded (decode b) refl
     where
-      by_decoded : (x : Decoded) → decode b ≡ x → (p : Sheet) × (decode b ≡ decoded p) × (n ≤ 8)
-      by_decoded (refused f) d =
-          let g : Compiled.Refused f ≡ Compiled.Answered (Built.Whole whole_0.0 whole_0.1 whole_0.2) = sym (ap (on_sheet Compiled.Refused (compile_sheet n limit (room buf))) d) ∙ whole_0.3 in
+      by_decoded : (x : Result Sheet Fault) → decode b ≡ x → (p : Sheet) × (decode b ≡ Ok p) × (n ≤ 8)
+      by_decoded (Err f) d =
+          let g : Err f ≡ Ok (Built.Whole whole_0.0 whole_0.1 whole_0.2) = sym (ap (λ x. x >>= compile_sheet n limit (room buf)) d) ∙ whole_0.3 in
           let z : ◌≡◌ {A = ℕ} 0 1 = cc in absurd (omega arith)
-      by_decoded (decoded p) d = (p, d, horizon b p d n limit buf slice whole_0.0 whole_0.1 whole_0.2 whole_0.3)
+      by_decoded (Ok p) d = (p, d, horizon b p d n limit buf slice whole_0.0 whole_0.1 whole_0.2 whole_0.3)
 
   -- and judge, called with the rows that it left and the count and root that it told, answers 0 and demand 3's sentence
-  module _ (p : Sheet) (d : decode b ≡ decoded p) (s : ℕ) (hs : s < 2 ^ p.F) (masks : List ℕ) (hm : length masks ≡ 2 * n) (ha : all (fits p.A) (masks_of masks n) ≡ true)
+  module _ (p : Sheet) (d : decode b ≡ Ok p) (s : ℕ) (hs : s < 2 ^ p.F) (masks : List ℕ) (hm : length masks ≡ 2 * n) (ha : all (fits p.A) (masks_of masks n) ≡ true)
       (answer : List ℕ) (room_for_2 : 8 ≤ length answer) where
     abbrev compiled_left : LeftRows
     compiled_left = compile_left b n limit buf slice
@@ -145,26 +143,26 @@ module _ (b : List ℕ) (n limit : ℕ) (buf slice : List ℕ) (wide : 20 ≤ le
     root_told : told_at compiled_left.answer 4 ≡ whole_0.2
     root_told = let h = small.1 in ap (λ x. told_at x 4) answer_is ∙ told_read (0 ∷ 0 ∷ whole_0.0 ∷ whole_0.1 ∷ whole_0.2 ∷ []) slice 4 (omega arith) wide (omega arith)
 
-    called : judge_of b n compiled_left.rows (told_at compiled_left.answer 3) (told_at compiled_left.answer 4) s masks ≡ Judged.Value (leads p s (masks_of masks n))
+    called : judge_of b n compiled_left.rows (told_at compiled_left.answer 3) (told_at compiled_left.answer 4) s masks ≡ Ok (leads p s (masks_of masks n))
     called = (λ i. judge_of b n compiled_left.rows (count_told i) (root_told i) s masks) ∙ demand3_called b p d n limit buf slice whole_0.0 whole_0.1 whole_0.2 whole_0.3 s hs masks hm ha
 
     pub demand3_left : (judged_left.code ≡ 0) × (told_at judged_left.answer 1 ≡ cond (leads p s (masks_of masks n)) 1 0)
     unfolding judge_left
     demand3_left = (
-      ap judge_code called,
+      ap code called,
       ap (λ a. told_at (told (judge_numbers a) answer) 1) called ∙ told_read (0 ∷ cond (leads p s (masks_of masks n)) 1 0 ∷ []) answer 1 (omega arith) room_for_2 (sign_small (leads p s (masks_of masks n))),
     )
 
 -- the run in demand 3's sentence is the one that run answers: its last number is the goal as 1 or 0
-module _ (b : List ℕ) (p : Sheet) (d : decode b ≡ decoded p) (s : ℕ) (hs : s < 2 ^ p.F) (σ : List ℕ) (most : length σ ≤ 8) (fit : entries_fit p σ ≡ true) where
-  run_went : run_of b s σ ≡ Ended.Went (run p s σ).done (run p s σ).state (reaches p σ s)
+module _ (b : List ℕ) (p : Sheet) (d : decode b ≡ Ok p) (s : ℕ) (hs : s < 2 ^ p.F) (σ : List ℕ) (most : length σ ≤ 8) (fit : entries_fit p σ ≡ true) where
+  run_went : run_of b s σ ≡ Ok (record { done = (run p s σ).done; state = (run p s σ).state; goal = reaches p σ s })
   unfolding run_of good_run fits reaches
-  run_went = ap (on_sheet Ended.Refused (run_sheet s σ)) d ∙ rw (lt-ltb s (2 ^ p.F) hs, le-leb (length σ) 8 most, fit)
+  run_went = ap (λ x. x >>= run_sheet s σ) d ∙ rw (lt-ltb s (2 ^ p.F) hs, le-leb (length σ) 8 most, fit)
 
   pub run_goal : (answer : List ℕ) → 16 ≤ length answer → ((run_left b s σ answer).code ≡ 0) × (told_at (run_left b s σ answer).answer 3 ≡ cond (reaches p σ s) 1 0)
   unfolding run_left
   run_goal answer wide = (
-    ap run_code run_went,
+    ap code run_went,
     ap (λ a. told_at (told (run_numbers a) answer) 3) run_went
         ∙ told_read (0 ∷ (run p s σ).done ∷ (run p s σ).state ∷ cond (reaches p σ s) 1 0 ∷ []) answer 3 (omega arith) wide (sign_small (reaches p σ s)),
   )

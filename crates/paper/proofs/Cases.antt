@@ -1,18 +1,18 @@
 -- The table of cases: what is asked, and the whole answer. Assumes nothing.
 use mathlib.Core.Path.{◌≡◌, refl}
-use mathlib.Core.Bool.{Bool, true, false, cond}
+use mathlib.Core.Bool.{cond}
 use mathlib.Core.List.{List, [], ◌∷◌, ◌++◌}
 use Prim.Native.Nat.{ℕ, ◌+◌, ◌*◌}
-use lib.ListN.{length, set, take, drop, replicate}
+use lib.ListN.{set, drop, replicate}
 use Rattle.paper.specs.declared.Lit.{Lit}
 use Rattle.paper.specs.Lists.{each, computed_lists}
 use Rattle.paper.specs.Counting.{computed_counting}
-use Rattle.paper.specs.Sheet.{Sheet, Decoded, decode, computed_sheet}
+use Rattle.paper.specs.Sheet.{decode, computed_sheet}
 use Rattle.paper.specs.Step.{computed_step}
-use Rattle.paper.specs.Clauses.{Clause, Clauses, theory, yes·, no·, computed_clauses}
+use Rattle.paper.specs.Clauses.{Clause, theory, computed_clauses}
 use Rattle.paper.specs.Circuit.{computed_circuit}
-use Rattle.paper.specs.Operations.{on_sheet, bytes4, check_of, run_of, compile_of, judge_of, Outcome, plan_of, computed_operations}
-use Rattle.paper.specs.Answers.{check_code, check_numbers, run_code, run_numbers, compile_code, compile_numbers, judge_code, judge_numbers, plan_code, plan_numbers, Left, LeftRows, LeftPlan, told, check_left, compile_left, plan_left, computed_answers}
+use Rattle.paper.specs.Operations.{on_sheet, bytes4, check_of, run_of, compile_of, judge_of, plan_of, computed_operations}
+use Rattle.paper.specs.Answers.{code, check_numbers, run_numbers, compile_code, compile_numbers, judge_numbers, plan_code, plan_numbers, check_left, compile_left, plan_left, computed_answers}
 use Rattle.paper.specs.Program.{decimal, printed, computed_program}
 use Rattle.paper.proofs.Sheets.{D, need, rule, clause, sheet, largest, like_d, one_action, goals}
 
@@ -43,10 +43,10 @@ of_clause c = each c (λ l. of_lit l ∷ []) ++ (0 ∷ [])
 abbrev pub reply : Ask → List ℕ
 reply (bytes b) = b
 reply (clauses b n) = on_sheet (λ f. []) (λ p. each (theory p n) of_clause) (decode b)
-reply (check b) = let a = check_of b in check_code a ∷ check_numbers a
-reply (run b s σ) = let a = run_of b s σ in run_code a ∷ run_numbers a
+reply (check b) = let a = check_of b in code a ∷ check_numbers a
+reply (run b s σ) = let a = run_of b s σ in code a ∷ run_numbers a
 reply (compile b n limit room) = let a = compile_of b n limit room in compile_code a ∷ compile_numbers n a
-reply (judge b n ns k root s masks) = let a = judge_of b n (each ns bytes4) k root s masks in judge_code a ∷ judge_numbers a
+reply (judge b n ns k root s masks) = let a = judge_of b n (each ns bytes4) k root s masks in code a ∷ judge_numbers a
 reply (plan b limit room n) = let o = plan_of b limit room n in plan_code o.answer ∷ plan_numbers o.answer ++ o.schedule
 reply (slice_after b slice) = (check_left b slice).answer
 reply (rows_after b n limit buf) = (compile_left b n limit buf []).rows

@@ -7,19 +7,20 @@ use native.Mathlib.Omega.{arith}
 use lib.Dec.{eqb, leb}
 use lib.ListN.{length, length-map}
 use borrow.Author.Tests.{eqb-true, leb-true}
+use Rattle.std.specs.Prelude.{Result, Ok}
 use Rattle.paper.specs.declared.Trailer.{Trailer}
 use Rattle.paper.specs.declared.Fault.{Fault}
 use Rattle.paper.specs.declared.Fault.TheVariants.{Unmarked, Unbounded, Disagrees}
 use Rattle.paper.specs.Lists.{all, filter, up_from}
-use Rattle.paper.specs.Sheet.{Sheet, trailer, marked, within, Bounded, agrees, good_need, good_rule, good_masks, need_at, rule_at, masks_at, offsets, needs_at, rules_at, starts_at, goals_at, bad_rows, sheet_of, Decoded, decoded, unless, no_row, decode, Fine, body_length, trailer_length, body_at}
+use Rattle.paper.specs.Sheet.{Sheet, trailer, marked, within, Bounded, agrees, good_need, good_rule, good_masks, need_at, rule_at, masks_at, offsets, needs_at, rules_at, starts_at, goals_at, bad_rows, sheet_of, unless, no_row, decode, Fine, body_length, trailer_length, body_at}
 use Rattle.paper.proofs.Basic.{and_e, by}
 use Rattle.paper.proofs.Lists.{all_map}
 
-unless_e : (ok : Bool) (f : Fault) (d : Decoded) (p : Sheet) → unless ok f d ≡ decoded p → (ok ≡ true) × (d ≡ decoded p)
+unless_e : (ok : Bool) (f : Fault) (d : Result Sheet Fault) (p : Sheet) → unless ok f d ≡ Ok p → (ok ≡ true) × (d ≡ Ok p)
 unless_e true f d p h = (refl, h)
 unless_e false f d p h = let z : ◌≡◌ {A = ℕ} 0 1 = cc in absurd (omega arith)
 
-row_e : (os : List ℕ) (q p : Sheet) → no_row os q ≡ decoded p → (os ≡ []) × (q ≡ p)
+row_e : (os : List ℕ) (q p : Sheet) → no_row os q ≡ Ok p → (os ≡ []) × (q ≡ p)
 row_e [] q p h = (refl, cc)
 row_e (o ∷ os) q p h = let z : ◌≡◌ {A = ℕ} 0 1 = cc in absurd (omega arith)
 
@@ -74,7 +75,7 @@ pub record Accepted (b : List ℕ) (p : Sheet) : Type 0 where
   pub clear : bad_rows b (trailer b) ≡ []
   pub sheet_is : sheet_of b (trailer b) ≡ p
 
-pub accepted : (b : List ℕ) (p : Sheet) → decode b ≡ decoded p → Accepted b p
+pub accepted : (b : List ℕ) (p : Sheet) → decode b ≡ Ok p → Accepted b p
 unfolding decode agrees
 accepted b p h =
     let t : Trailer = trailer b in
@@ -93,7 +94,7 @@ accepted b p h =
     }
 
 -- the longest sheet has 432 bytes
-pub decoded_length : (b : List ℕ) (p : Sheet) → decode b ≡ decoded p → length b ≤ 432
+pub decoded_length : (b : List ℕ) (p : Sheet) → decode b ≡ Ok p → length b ≤ 432
 unfolding body_length
 decoded_length b p h =
     let a = accepted b p h in
@@ -101,11 +102,11 @@ decoded_length b p h =
     omega arith
 
 -- the body begins where the file begins
-pub decoded_body : (b : List ℕ) (p : Sheet) → decode b ≡ decoded p → body_at b (trailer b) ≡ 0
+pub decoded_body : (b : List ℕ) (p : Sheet) → decode b ≡ Ok p → body_at b (trailer b) ≡ 0
 unfolding body_at
 decoded_body b p h = let a = accepted b p h in omega arith
 
-pub decoded_fine : (b : List ℕ) (p : Sheet) → decode b ≡ decoded p → Fine p
+pub decoded_fine : (b : List ℕ) (p : Sheet) → decode b ≡ Ok p → Fine p
 unfolding bad_rows sheet_of needs_at rules_at starts_at goals_at
 decoded_fine b p h =
     let t : Trailer = trailer b in

@@ -7,10 +7,11 @@ use Prim.Native.Nat.{ℕ, zero, suc, ◌+◌, ◌^◌, ◌≤◌, ◌<◌}
 use lib.ListN.{length}
 use native.Mathlib.Omega.{arith}
 use borrow.Author.Tests.{le-leb, lt-leb}
+use Rattle.std.specs.Prelude.{Ok}
 use Rattle.paper.specs.declared.Fault.TheVariants.{ShortSchedule, NoStart}
 use Rattle.paper.specs.declared.Planned.{Planned}
 use Rattle.paper.specs.Counting.{worth, count_below}
-use Rattle.paper.specs.Sheet.{Sheet, decoded, decode, is_start, start_count}
+use Rattle.paper.specs.Sheet.{Sheet, decode, is_start, start_count}
 use Rattle.paper.specs.Step.{is_plan}
 use Rattle.paper.specs.Clauses.{theory}
 use Rattle.paper.specs.Circuit.{built_of, effort, Table, compile}
@@ -75,22 +76,22 @@ module _ (p : Sheet) (limit k bytes : ℕ) where
       planned_as zero o h = absurd (omega arith)
       planned_as (suc n) o h = refl
 
-pub plan_decoded : (b : List ℕ) (p : Sheet) → decode b ≡ decoded p → (limit k bytes : ℕ) → plan_of b limit k bytes ≡ plan_sheet limit k bytes p
+pub plan_decoded : (b : List ℕ) (p : Sheet) → decode b ≡ Ok p → (limit k bytes : ℕ) → plan_of b limit k bytes ≡ plan_sheet limit k bytes p
 unfolding plan_of
 plan_decoded b p d limit k bytes = ap (on_sheet (λ f. stopped (Planned.Refused f)) (plan_sheet limit k bytes)) d
 
 -- 5: the schedule buffer is shorter than H
-pub plan_short : (b : List ℕ) (p : Sheet) → decode b ≡ decoded p → (limit k bytes : ℕ) → bytes < p.H → plan_of b limit k bytes ≡ stopped (Planned.Refused ShortSchedule)
+pub plan_short : (b : List ℕ) (p : Sheet) → decode b ≡ Ok p → (limit k bytes : ℕ) → bytes < p.H → plan_of b limit k bytes ≡ stopped (Planned.Refused ShortSchedule)
 plan_short b p d limit k bytes l = plan_decoded b p d limit k bytes ∙ sheet_short p limit k bytes l
 
 -- 6: no state is a start
-pub plan_no_start : (b : List ℕ) (p : Sheet) → decode b ≡ decoded p → (limit k bytes : ℕ) → p.H ≤ bytes → start_count p ≡ 0
+pub plan_no_start : (b : List ℕ) (p : Sheet) → decode b ≡ Ok p → (limit k bytes : ℕ) → p.H ≤ bytes → start_count p ≡ 0
     → (plan_of b limit k bytes ≡ stopped (Planned.Refused NoStart)) × ((s : ℕ) → s < 2 ^ p.F → is_start p s ≡ false)
 unfolding start_count
 plan_no_start b p d limit k bytes l z = (plan_decoded b p d limit k bytes ∙ sheet_no_start p limit k bytes l z, count_none (2 ^ p.F) (is_start p) z)
 
 -- demand 2: with a start, the answer is 7, 8, 9 or 0, and says what it is to say
-pub demand2 : (b : List ℕ) (p : Sheet) → decode b ≡ decoded p → (limit k bytes : ℕ) → p.H ≤ bytes → 0 < start_count p → SaysOf p limit k (plan_of b limit k bytes)
+pub demand2 : (b : List ℕ) (p : Sheet) → decode b ≡ Ok p → (limit k bytes : ℕ) → p.H ≤ bytes → 0 < start_count p → SaysOf p limit k (plan_of b limit k bytes)
 demand2 b p d limit k bytes l s =
     subst (SaysOf p limit k) (sym (plan_decoded b p d limit k bytes ∙ sheet_started p limit k bytes l s)) (from_says p limit k p.H 0 (omega arith) (λ m h. absurd (omega arith)))
 

@@ -6,8 +6,9 @@ use mathlib.Core.List.{List, map}
 use Prim.Native.Nat.{ℕ, ◌^◌, ◌<◌}
 use lib.Dec.{ltb, leb}
 use lib.ListN.{length, length-map}
+use Rattle.std.specs.Prelude.{Ok}
 use Rattle.paper.specs.Lists.{all}
-use Rattle.paper.specs.Sheet.{Sheet, decoded, decode, is_start, Fine}
+use Rattle.paper.specs.Sheet.{Sheet, decode, is_start, Fine}
 use Rattle.paper.specs.Step.{reaches, is_plan, entries_fit}
 use Rattle.paper.specs.Clauses.{Clauses, variables, theory_of, every_pair, theory}
 use Rattle.paper.specs.Circuit.{compile}
@@ -65,7 +66,7 @@ scheduled p fine s l σ h =
     )
 
 -- demand 3 over the sheet's bytes, in document 01's words
-pub demand3 : (b : List ℕ) (p : Sheet) → decode b ≡ decoded p → (s : ℕ) → s < 2 ^ p.F → (ms : List ℕ) → all (λ m. ltb m (2 ^ p.A)) ms ≡ true → (n : ℕ) → length ms ≡ n →
+pub demand3 : (b : List ℕ) (p : Sheet) → decode b ≡ Ok p → (s : ℕ) → s < 2 ^ p.F → (ms : List ℕ) → all (λ m. ltb m (2 ^ p.A)) ms ≡ true → (n : ℕ) → length ms ≡ n →
     judge p n (compile (theory p n)).table (compile (theory p n)).root s ms ≡ leads p s ms
 demand3 b p h = judge_leads p (decoded_fine b p h)
 

@@ -2,7 +2,7 @@
 use mathlib.Core.Path.{◌≡◌, refl, ◌∙◌}
 use mathlib.Core.Bool.{Bool, true, false, not, ◌&&◌, ◌||◌, beq}
 use mathlib.Core.List.{List, [], ◌∷◌, ◌++◌, map}
-use Prim.Native.Nat.{ℕ, ◌+◌, ◌-◌}
+use Prim.Native.Nat.{ℕ, ◌-◌}
 use lib.Dec.{ltb}
 use Rattle.paper.specs.declared.Moment.{Moment}
 use Rattle.paper.specs.declared.Step.{Step}

@@ -7,11 +7,12 @@ use Prim.Native.Nat.{ℕ, zero, suc, ◌-◌, ◌^◌, ◌<◌}
 use native.Mathlib.Omega.{arith}
 use lib.Dec.{ltb}
 use lib.ListN.{get_or}
+use Rattle.std.specs.Prelude.{Ok}
 use Rattle.paper.specs.declared.Lit.{Lit}
 use Rattle.paper.specs.declared.Row.TheVariants.{False, True, Literal, Conjunction}
 use Rattle.paper.specs.Lists.{any, all, elem, computed_lists}
 use Rattle.paper.specs.Counting.{bit, computed_counting}
-use Rattle.paper.specs.Sheet.{Sheet, decoded, decode, is_start, computed_sheet}
+use Rattle.paper.specs.Sheet.{Sheet, decode, is_start, computed_sheet}
 use Rattle.paper.specs.Step.{reaches, is_plan, computed_step}
 use Rattle.paper.specs.Clauses.{Clauses, yes·, no·, Assign, holds, sat, sat_all, fact, action, z, theory, computed_clauses}
 use Rattle.paper.specs.Circuit.{Table, compile, value_at, computed_circuit}
@@ -35,7 +36,7 @@ sheet_d =
     }
 
 -- its bytes say that sheet
-pub d_is : decode D ≡ decoded sheet_d
+pub d_is : decode D ≡ Ok sheet_d
 unfolding computed_lists computed_counting computed_sheet
 d_is = refl
 

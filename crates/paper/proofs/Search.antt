@@ -3,7 +3,7 @@ use mathlib.Core.Path.{◌≡◌, refl, sym, ap, ◌∙◌}
 use mathlib.Core.Bool.{false, cond}
 use mathlib.Core.List.{List, [], ◌∷◌, ◌++◌, map, append_assoc}
 use mathlib.Core.Option.{Option, none, some}
-use Prim.Native.Nat.{ℕ, zero, suc, ◌+◌}
+use Prim.Native.Nat.{ℕ, zero, suc}
 use Rattle.paper.specs.Operations.{Schedule, Test, entries, schedules, first_of}
 use Rattle.paper.specs.Search.{or_else, tries, search, Safe}
 use Rattle.paper.specs.Lists.{each}

@@ -1,12 +1,9 @@
 -- What comes back: the code and the numbers of each answer, and what every buffer holds after a call.
 -- Assumes nothing.
-use Rattle.std.specs.Prelude.{cond, List, [], ◌∷◌, ◌++◌, ℕ, ◌-◌, ◌*◌, ltb, length, drop, replicate}
+use Rattle.std.specs.Prelude.{Bool, cond, List, [], ◌∷◌, ◌++◌, ℕ, ◌-◌, ◌*◌, ltb, length, drop, replicate, Result, Ok, Err}
 use Rattle.paper.specs.declared.Fault.{Fault}
-use Rattle.paper.specs.declared.Checked.{Checked}
 use Rattle.paper.specs.declared.Ended.{Ended}
 use Rattle.paper.specs.declared.Built.{Built}
-use Rattle.paper.specs.declared.Compiled.{Compiled}
-use Rattle.paper.specs.declared.Judged.{Judged}
 use Rattle.paper.specs.declared.Planned.{Planned}
 use Rattle.paper.specs.Lists.{each}
 use Rattle.paper.specs.Sheet.{decode}
@@ -26,33 +23,21 @@ fault_code Fault.BadCall = 10
 fault_code (Fault.BadTable i) = 11
 
 abbrev pub fault_place : Fault → ℕ
-fault_place Fault.Unmarked = 0
-fault_place Fault.Unbounded = 0
-fault_place Fault.Disagrees = 0
 fault_place (Fault.BadRow o) = o
-fault_place Fault.ShortSchedule = 0
-fault_place Fault.NoStart = 0
-fault_place Fault.BadCall = 0
 fault_place (Fault.BadTable i) = i
+fault_place f = 0
 
 -- ---- the codes
-abbrev pub check_code : Checked → ℕ
-check_code (Checked.Refused f) = fault_code f
-check_code (Checked.Starts n) = 0
+-- check, run and judge: the refusal's number, or 0
+abbrev pub code : {T : Type 0} → Result T Fault → ℕ
+code (Err f) = fault_code f
+code (Ok x) = 0
 
-abbrev pub run_code : Ended → ℕ
-run_code (Ended.Refused f) = fault_code f
-run_code (Ended.Went d s g) = 0
-
-abbrev pub compile_code : Compiled → ℕ
-compile_code (Compiled.Refused f) = fault_code f
-compile_code (Compiled.Answered Built.TooMuch) = 7
-compile_code (Compiled.Answered (Built.NoRoom e)) = 8
-compile_code (Compiled.Answered (Built.Whole e k i)) = 0
-
-abbrev pub judge_code : Judged → ℕ
-judge_code (Judged.Refused f) = fault_code f
-judge_code (Judged.Value v) = 0
+abbrev pub compile_code : Result Built Fault → ℕ
+compile_code (Err f) = fault_code f
+compile_code (Ok Built.TooMuch) = 7
+compile_code (Ok (Built.NoRoom e)) = 8
+compile_code (Ok (Built.Whole e k i)) = 0
 
 abbrev pub plan_code : Planned → ℕ
 plan_code (Planned.Refused f) = fault_code f
@@ -63,26 +48,26 @@ plan_code (Planned.Found n e k i) = 0
 
 -- ---- the numbers: place first, those not named are 0
 -- check: place, count
-abbrev pub check_numbers : Checked → List ℕ
-check_numbers (Checked.Refused f) = fault_place f ∷ 0 ∷ []
-check_numbers (Checked.Starts n) = 0 ∷ n ∷ []
+abbrev pub check_numbers : Result ℕ Fault → List ℕ
+check_numbers (Err f) = fault_place f ∷ 0 ∷ []
+check_numbers (Ok n) = 0 ∷ n ∷ []
 
 -- run: place, done, state, goal as 1 or 0
-abbrev pub run_numbers : Ended → List ℕ
-run_numbers (Ended.Refused f) = fault_place f ∷ 0 ∷ 0 ∷ 0 ∷ []
-run_numbers (Ended.Went d s g) = 0 ∷ d ∷ s ∷ cond g 1 0 ∷ []
+abbrev pub run_numbers : Result Ended Fault → List ℕ
+run_numbers (Err f) = fault_place f ∷ 0 ∷ 0 ∷ 0 ∷ []
+run_numbers (Ok e) = 0 ∷ e.done ∷ e.state ∷ cond e.goal 1 0 ∷ []
 
 -- compile at horizon n: place, horizon, effort, rows, root
-abbrev pub compile_numbers : ℕ → Compiled → List ℕ
-compile_numbers n (Compiled.Refused f) = fault_place f ∷ 0 ∷ 0 ∷ 0 ∷ 0 ∷ []
-compile_numbers n (Compiled.Answered Built.TooMuch) = 0 ∷ n ∷ 0 ∷ 0 ∷ 0 ∷ []
-compile_numbers n (Compiled.Answered (Built.NoRoom e)) = 0 ∷ n ∷ e ∷ 0 ∷ 0 ∷ []
-compile_numbers n (Compiled.Answered (Built.Whole e k i)) = 0 ∷ 0 ∷ e ∷ k ∷ i ∷ []
+abbrev pub compile_numbers : ℕ → Result Built Fault → List ℕ
+compile_numbers n (Err f) = fault_place f ∷ 0 ∷ 0 ∷ 0 ∷ 0 ∷ []
+compile_numbers n (Ok Built.TooMuch) = 0 ∷ n ∷ 0 ∷ 0 ∷ 0 ∷ []
+compile_numbers n (Ok (Built.NoRoom e)) = 0 ∷ n ∷ e ∷ 0 ∷ 0 ∷ []
+compile_numbers n (Ok (Built.Whole e k i)) = 0 ∷ 0 ∷ e ∷ k ∷ i ∷ []
 
 -- judge: place, value as 1 or 0
-abbrev pub judge_numbers : Judged → List ℕ
-judge_numbers (Judged.Refused f) = fault_place f ∷ 0 ∷ []
-judge_numbers (Judged.Value v) = 0 ∷ cond v 1 0 ∷ []
+abbrev pub judge_numbers : Result Bool Fault → List ℕ
+judge_numbers (Err f) = fault_place f ∷ 0 ∷ []
+judge_numbers (Ok v) = 0 ∷ cond v 1 0 ∷ []
 
 -- plan: place, horizon, effort, rows, root
 abbrev pub plan_numbers : Planned → List ℕ
@@ -108,11 +93,11 @@ filled t buf =
     let b = each t row_bytes in b ++ replicate (row_size * room buf - length b) 0 ++ drop (row_size * room buf) buf
 
 -- after 7 or 8 all rows within room are zero; after 0 it holds the circuit; after any other number it is untouched
-abbrev pub compile_rows : Table → List ℕ → Compiled → List ℕ
-compile_rows t buf (Compiled.Refused f) = buf
-compile_rows t buf (Compiled.Answered Built.TooMuch) = filled [] buf
-compile_rows t buf (Compiled.Answered (Built.NoRoom e)) = filled [] buf
-compile_rows t buf (Compiled.Answered (Built.Whole e k i)) = filled t buf
+abbrev pub compile_rows : Table → List ℕ → Result Built Fault → List ℕ
+compile_rows t buf (Err f) = buf
+compile_rows t buf (Ok Built.TooMuch) = filled [] buf
+compile_rows t buf (Ok (Built.NoRoom e)) = filled [] buf
+compile_rows t buf (Ok (Built.Whole e k i)) = filled t buf
 
 abbrev pub plan_rows : List ℕ → Outcome → Planned → List ℕ
 plan_rows buf o (Planned.Refused f) = buf
@@ -146,10 +131,10 @@ pub record LeftPlan : Type 0 where
   pub schedule : List ℕ
 
 unfoldable pub check_left : List ℕ → List ℕ → Left
-check_left b slice = let a = check_of b in record { code = check_code a; answer = told (check_numbers a) slice }
+check_left b slice = let a = check_of b in record { code = code a; answer = told (check_numbers a) slice }
 
 unfoldable pub run_left : List ℕ → ℕ → List ℕ → List ℕ → Left
-run_left b s σ slice = let a = run_of b s σ in record { code = run_code a; answer = told (run_numbers a) slice }
+run_left b s σ slice = let a = run_of b s σ in record { code = code a; answer = told (run_numbers a) slice }
 
 -- the table that compile would make of the sheet at a horizon
 unfoldable pub table_for : List ℕ → ℕ → Table
@@ -163,7 +148,7 @@ compile_left b n limit buf slice =
 
 unfoldable pub judge_left : List ℕ → ℕ → List ℕ → ℕ → ℕ → ℕ → List ℕ → List ℕ → Left
 judge_left b n buf k root s masks slice =
-    let a = judge_of b n buf k root s masks in record { code = judge_code a; answer = told (judge_numbers a) slice }
+    let a = judge_of b n buf k root s masks in record { code = code a; answer = told (judge_numbers a) slice }
 
 unfoldable pub plan_left : List ℕ → ℕ → List ℕ → List ℕ → List ℕ → LeftPlan
 plan_left b limit buf sch slice =

@@ -1,6 +1,6 @@
 -- The five operations: from the bytes and numbers lent to an answer.
 -- Assumes nothing.
-use Rattle.std.specs.Prelude.{◌≡◌, Bool, true, false, not, ◌&&◌, ◌||◌, cond, List, [], ◌∷◌, map, ℕ, zero, suc, ◌+◌, ◌-◌, ◌*◌, ◌/◌, ◌%◌, min, eqb, ltb, leb, length, get_or}
+use Rattle.std.specs.Prelude.{◌≡◌, Bool, true, false, not, ◌&&◌, ◌||◌, cond, List, [], ◌∷◌, map, ℕ, zero, suc, ◌+◌, ◌-◌, ◌*◌, ◌/◌, ◌%◌, min, eqb, ltb, leb, length, get_or, Result, Ok, Err}
 use Rattle.std.proofs.Math.Option.{Option, none, some}
 use Rattle.paper.specs.declared.Lit.{Lit}
 use Rattle.paper.specs.declared.Row.{Row}
@@ -8,45 +8,48 @@ use Rattle.paper.specs.declared.Row.TheVariants.{False, True, Literal, Conjuncti
 use Rattle.paper.specs.declared.Run.{Run}
 use Rattle.paper.specs.declared.Fault.{Fault}
 use Rattle.paper.specs.declared.Fault.TheVariants.{ShortSchedule, NoStart, BadCall, BadTable}
-use Rattle.paper.specs.declared.Checked.{Checked}
 use Rattle.paper.specs.declared.Ended.{Ended}
 use Rattle.paper.specs.declared.Built.{Built}
-use Rattle.paper.specs.declared.Compiled.{Compiled}
-use Rattle.paper.specs.declared.Judged.{Judged}
 use Rattle.paper.specs.declared.Planned.{Planned}
 use Rattle.paper.specs.Lists.{all, filter, each, up_from}
 use Rattle.paper.specs.Counting.{bit}
-use Rattle.paper.specs.Sheet.{Sheet, Decoded, refused, decoded, word, fits, decode, is_goal, start_count}
+use Rattle.paper.specs.Sheet.{Sheet, word, fits, decode, is_goal, start_count}
 use Rattle.paper.specs.Step.{run, entries_fit, is_plan}
 use Rattle.paper.specs.Clauses.{Assign, holds, stride, variables, theory}
 use Rattle.paper.specs.Circuit.{row_numbers, same_numbers, Table, compile, built_of, value_at}
 
+-- what follows a step, unless that is refused
+infixl 10 ◌>>=◌
+abbrev pub ◌>>=◌ : {T U : Type 0} → Result T Fault → (T → Result U Fault) → Result U Fault
+Ok x >>= f = f x
+Err e >>= f = Err e
+
 -- an operation on a sheet: the sheet's own refusals come first
 module _ {X : Type 0} where
-  abbrev pub on_sheet : (Fault → X) → (Sheet → X) → Decoded → X
-  on_sheet f g (refused e) = f e
-  on_sheet f g (decoded p) = g p
+  abbrev pub on_sheet : (Fault → X) → (Sheet → X) → Result Sheet Fault → X
+  on_sheet f g (Err e) = f e
+  on_sheet f g (Ok p) = g p
 
 -- ---- check: how many of the 2^F states are starts
-abbrev pub counted : ℕ → Checked
-counted zero = Checked.Refused NoStart
-counted (suc n) = Checked.Starts (suc n)
+abbrev pub counted : ℕ → Result ℕ Fault
+counted zero = Err NoStart
+counted (suc n) = Ok (suc n)
 
-unfoldable pub check_of : List ℕ → Checked
-check_of b = on_sheet Checked.Refused (λ p. counted (start_count p)) (decode b)
+unfoldable pub check_of : List ℕ → Result ℕ Fault
+check_of b = decode b >>= λ p. counted (start_count p)
 
 -- ---- run: a schedule of 0..8 entries from a state
 unfoldable pub good_run : Sheet → ℕ → List ℕ → Bool
 good_run p s σ = fits p.F s && (leb (length σ) 8 && entries_fit p σ)
 
 abbrev pub ended : Sheet → Run → Ended
-ended p r = Ended.Went r.done r.state (r.whole && is_goal p r.state)
+ended p r = record { done = r.done; state = r.state; goal = r.whole && is_goal p r.state }
 
-abbrev pub run_sheet : ℕ → List ℕ → Sheet → Ended
-run_sheet s σ p = cond (good_run p s σ) (ended p (run p s σ)) (Ended.Refused BadCall)
+abbrev pub run_sheet : ℕ → List ℕ → Sheet → Result Ended Fault
+run_sheet s σ p = cond (good_run p s σ) (Ok (ended p (run p s σ))) (Err BadCall)
 
-unfoldable pub run_of : List ℕ → ℕ → List ℕ → Ended
-run_of b s σ = on_sheet Ended.Refused (run_sheet s σ) (decode b)
+unfoldable pub run_of : List ℕ → ℕ → List ℕ → Result Ended Fault
+run_of b s σ = decode b >>= run_sheet s σ
 
 -- ---- row tables are passed as bytes, four per number, low byte first
 abbrev pub long : List ℕ → ℕ → ℕ
@@ -67,11 +70,11 @@ unfoldable pub room : List ℕ → ℕ
 room buf = min (length buf / row_size) 65536
 
 -- ---- compile: horizon 0..8, effort limit, k rows of room
-abbrev pub compile_sheet : ℕ → ℕ → ℕ → Sheet → Compiled
-compile_sheet n limit k p = cond (leb n 8) (Compiled.Answered (built_of limit k (theory p n))) (Compiled.Refused BadCall)
+abbrev pub compile_sheet : ℕ → ℕ → ℕ → Sheet → Result Built Fault
+compile_sheet n limit k p = cond (leb n 8) (Ok (built_of limit k (theory p n))) (Err BadCall)
 
-unfoldable pub compile_of : List ℕ → ℕ → ℕ → ℕ → Compiled
-compile_of b n limit k = on_sheet Compiled.Refused (compile_sheet n limit k) (decode b)
+unfoldable pub compile_of : List ℕ → ℕ → ℕ → ℕ → Result Built Fault
+compile_of b n limit k = decode b >>= compile_sheet n limit k
 
 -- ---- judge: the value of a row table at a state and masks of actions
 module _ (p : Sheet) (n : ℕ) where
@@ -135,17 +138,17 @@ good_judge p n buf k root s masks =
     && (leb n 8 && (eqb (length masks) (2 * n) && (all (fits p.A) (masks_of masks n) && (leb 2 k && (leb k (room buf) && ltb root k)))))
 
 -- a bad call, the first bad row, or the value
-abbrev pub judged_by : Bool → List ℕ → Bool → Judged
-judged_by false bad v = Judged.Refused BadCall
-judged_by true [] v = Judged.Value v
-judged_by true (i ∷ is) v = Judged.Refused (BadTable i)
+abbrev pub judged_by : Bool → List ℕ → Bool → Result Bool Fault
+judged_by false bad v = Err BadCall
+judged_by true [] v = Ok v
+judged_by true (i ∷ is) v = Err (BadTable i)
 
-abbrev pub judge_sheet : ℕ → List ℕ → ℕ → ℕ → ℕ → List ℕ → Sheet → Judged
+abbrev pub judge_sheet : ℕ → List ℕ → ℕ → ℕ → ℕ → List ℕ → Sheet → Result Bool Fault
 judge_sheet n buf k root s masks p =
     judged_by (good_judge p n buf k root s masks) (filter (λ i. not (good_row_at (variables p n) buf i)) (up_from 0 k)) (judge p n (table_of buf k) root s (masks_of masks n))
 
-unfoldable pub judge_of : List ℕ → ℕ → List ℕ → ℕ → ℕ → ℕ → List ℕ → Judged
-judge_of b n buf k root s masks = on_sheet Judged.Refused (judge_sheet n buf k root s masks) (decode b)
+unfoldable pub judge_of : List ℕ → ℕ → List ℕ → ℕ → ℕ → ℕ → List ℕ → Result Bool Fault
+judge_of b n buf k root s masks = decode b >>= judge_sheet n buf k root s masks
 
 -- ---- the first schedule
 abbrev pub Schedule : Type 0

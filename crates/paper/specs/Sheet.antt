@@ -1,6 +1,6 @@
 -- The sheet: its bytes, what refuses them, what they say; clauses, starts and goals.
 -- Assumes nothing.
-use Rattle.std.specs.Prelude.{◌≡◌, Bool, true, false, not, ◌&&◌, ◌||◌, List, [], ◌∷◌, ◌++◌, map, ℕ, ◌+◌, ◌-◌, ◌*◌, ◌^◌, ◌≤◌, eqb, ltb, leb, length, get_or}
+use Rattle.std.specs.Prelude.{◌≡◌, Bool, true, false, not, ◌&&◌, ◌||◌, List, [], ◌∷◌, ◌++◌, map, ℕ, ◌+◌, ◌-◌, ◌*◌, ◌^◌, ◌≤◌, eqb, ltb, leb, length, get_or, Result, Ok, Err}
 use Rattle.paper.specs.declared.Trailer.{Trailer}
 use Rattle.paper.specs.declared.Fault.{Fault}
 use Rattle.paper.specs.declared.Fault.TheVariants.{Unmarked, Unbounded, Disagrees, BadRow}
@@ -142,23 +142,18 @@ sheet_of b t =
       goals = map (masks_at b) (goals_at b t);
     }
 
--- a refusal, or the sheet
-pub data Decoded : Type 0 where
-  refused : Fault → Decoded
-  decoded : Sheet → Decoded
-
 -- refused unless it passes
-abbrev pub unless : Bool → Fault → Decoded → Decoded
+abbrev pub unless : Bool → Fault → Result Sheet Fault → Result Sheet Fault
 unless true f d = d
-unless false f d = refused f
+unless false f d = Err f
 
 -- the first bad row, or the sheet
-abbrev pub no_row : List ℕ → Sheet → Decoded
-no_row [] p = decoded p
-no_row (o ∷ os) p = refused (BadRow o)
+abbrev pub no_row : List ℕ → Sheet → Result Sheet Fault
+no_row [] p = Ok p
+no_row (o ∷ os) p = Err (BadRow o)
 
 -- the first refusal that applies, else the sheet
-unfoldable pub decode : List ℕ → Decoded
+unfoldable pub decode : List ℕ → Result Sheet Fault
 decode b =
     unless (marked b) Unmarked (unless (within (trailer b)) Unbounded (unless (agrees b (trailer b)) Disagrees (no_row (bad_rows b (trailer b)) (sheet_of b (trailer b)))))
 

@@ -89,8 +89,8 @@ pub struct Run {
     pub whole: bool,
 }
 
-// What refuses a call and leaves every buffer but the answer untouched. Three know a place.
-#[derive(Clone, Copy)]
+// What refuses a call and leaves every buffer but the answer untouched. Two know a place.
+#[derive(Clone, Copy, Debug, PartialEq, Eq)]
 pub enum Fault {
     Unmarked,
     Unbounded,
@@ -102,18 +102,41 @@ pub enum Fault {
     BadTable(u32),
 }
 
-// Check: how many of the states are starts.
-#[derive(Clone, Copy)]
-pub enum Checked {
-    Refused(Fault),
-    Starts(u32),
+impl Fault {
+    ghost use Rattle.paper.specs.Answers.{fault_code, fault_place};
+
+    pub fn number(self) -> u32
+        ensures { result ≡ fault_code self }
+    {
+        match self {
+            Fault::Unmarked => 1,
+            Fault::Unbounded => 2,
+            Fault::Disagrees => 3,
+            Fault::BadRow(_) => 4,
+            Fault::ShortSchedule => 5,
+            Fault::NoStart => 6,
+            Fault::BadCall => 10,
+            Fault::BadTable(_) => 11,
+        }
+    }
+
+    // The place of 4 and 11.
+    pub fn place(self) -> u32
+        ensures { result ≡ fault_place self }
+    {
+        match self {
+            Fault::BadRow(at) | Fault::BadTable(at) => at,
+            _ => 0,
+        }
+    }
 }
 
-// Run: steps done, the state reached, the goal.
-#[derive(Clone, Copy)]
-pub enum Ended {
-    Refused(Fault),
-    Went(u32, u16, bool),
+// Where a schedule ends: steps done, the state reached, and whether that is a goal and no step failed.
+#[derive(Clone, Copy, Debug, PartialEq, Eq)]
+pub struct Ended {
+    pub done: u32,
+    pub state: u16,
+    pub goal: bool,
 }
 
 // A circuit under its two limits: effort above its limit; rows above room, with the effort; effort, rows, root.
@@ -122,20 +145,6 @@ pub enum Built {
     TooMuch,
     NoRoom(u32),
     Whole(u32, u32, u32),
-}
-
-// Compile.
-#[derive(Clone, Copy)]
-pub enum Compiled {
-    Refused(Fault),
-    Answered(Built),
-}
-
-// Judge: the root's value.
-#[derive(Clone, Copy)]
-pub enum Judged {
-    Refused(Fault),
-    Value(bool),
 }
 
 // Plan: the horizon, then as in `Built`.

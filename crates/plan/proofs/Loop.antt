@@ -1,21 +1,22 @@
 -- The horizons one after the other, as the planner's loop follows the definition. Assumes nothing.
 use mathlib.Core.Path.{◌≡◌, refl, sym, ap, ◌∙◌, subst}
-use mathlib.Core.Bool.{Bool, true, false}
+use mathlib.Core.Bool.{true, false}
 use mathlib.Core.List.{List}
 use Prim.Native.Nat.{ℕ, zero, suc, ◌+◌, ◌-◌, ◌≤◌, ◌<◌}
 use native.Mathlib.Omega.{arith}
 use lib.ListN.{take}
 use Rattle.paper.specs.declared.Built.{Built}
 use Rattle.paper.specs.declared.Built.TheVariants.{TooMuch, NoRoom, Whole}
-use Rattle.paper.specs.declared.Compiled.{Compiled}
+use Rattle.std.specs.Prelude.{Ok, Some, None}
+use Rattle.std.specs.Prelude as std
 use Rattle.paper.specs.declared.Planned.{Planned}
 use Rattle.paper.specs.Sheet.{Sheet}
 use Rattle.paper.specs.Clauses.{theory}
 use Rattle.paper.specs.Circuit.{compile, built_of}
-use Rattle.paper.specs.Operations.{room, Schedule, first_plan, Outcome, stopped, searched, at_horizon, no_plan, plan_from}
+use Rattle.paper.specs.Operations.{room, first_plan, Outcome, stopped, searched, at_horizon, no_plan, plan_from}
 use Rattle.paper.specs.Answers.{compile_rows, plan_rows, plan_schedule}
 use Rattle.paper.proofs.Basic.{never}
-use Rattle.seek.specs.Seeking.{answered}
+use Rattle.seek.specs.Seeking.{entries_of}
 use Rattle.plan.specs.declared.Tried.{Tried}
 use Rattle.plan.specs.Horizons.{Tries, ends, closing, scheduled, Plans}
 use Rattle.plan.proofs.Tables.{Alike, alike_self, alike_room, rows_alike, left_alike}
@@ -23,49 +24,49 @@ use Rattle.plan.proofs.Tables.{Alike, alike_self, alike_room, rows_alike, left_a
 -- ---- one horizon
 module _ (p : Sheet) (n : ℕ) where
   -- the outcome if the planner ends with it
-  abbrev pub planned : ℕ → ℕ → ℕ → Bool → Schedule → Outcome
-  planned e j i true σ = record { answer = Planned.Found n e j i; table = (compile (theory p n)).table; schedule = σ }
-  planned e j i false σ = no_plan p n e j i
+  abbrev pub planned : ℕ → ℕ → ℕ → std.Option (List ℕ) → Outcome
+  planned e j i (Some σ) = record { answer = Planned.Found n e j i; table = (compile (theory p n)).table; schedule = take n σ }
+  planned e j i None = no_plan p n e j i
 
-  abbrev pub closed : Built → Bool → Schedule → Outcome
-  closed TooMuch ok σ = stopped (Planned.TooMuch n)
-  closed (NoRoom e) ok σ = stopped (Planned.NoRoom n e)
-  closed (Whole e j i) ok σ = planned e j i ok σ
+  abbrev pub closed : Built → std.Option (List ℕ) → Outcome
+  closed TooMuch o = stopped (Planned.TooMuch n)
+  closed (NoRoom e) o = stopped (Planned.NoRoom n e)
+  closed (Whole e j i) o = planned e j i o
 
-  abbrev Finds : Built → Bool → Schedule → Type 0
-  Finds b ok σ = (e j i : ℕ) → b ≡ Whole e j i → answered ok σ ≡ first_plan p n
+  abbrev Finds : Built → std.Option (List ℕ) → Type 0
+  Finds b o = (e j i : ℕ) → b ≡ Whole e j i → entries_of n o ≡ first_plan p n
 
-  at_ends : (next : ℕ → ℕ → ℕ → Outcome) (b : Built) (ok : Bool) (σ : Schedule) → Finds b ok σ → ends b ok ≡ true → at_horizon p n next b ≡ closed b ok σ
-  at_ends next TooMuch ok σ f h = refl
-  at_ends next (NoRoom e) ok σ f h = refl
-  at_ends next (Whole e j i) true σ f h = ap (searched p n e j i (next e j i)) (sym (f e j i refl))
-  at_ends next (Whole e j i) false σ f h = never h refl
+  at_ends : (next : ℕ → ℕ → ℕ → Outcome) (b : Built) (o : std.Option (List ℕ)) → Finds b o → ends b o ≡ true → at_horizon p n next b ≡ closed b o
+  at_ends next TooMuch o f h = refl
+  at_ends next (NoRoom e) o f h = refl
+  at_ends next (Whole e j i) (Some σ) f h = ap (searched p n e j i (next e j i)) (sym (f e j i refl))
+  at_ends next (Whole e j i) None f h = never h refl
 
-  at_last : (b : Built) (ok : Bool) (σ : Schedule) → Finds b ok σ → at_horizon p n (no_plan p n) b ≡ closed b ok σ
-  at_last TooMuch ok σ f = refl
-  at_last (NoRoom e) ok σ f = refl
-  at_last (Whole e j i) true σ f = ap (searched p n e j i (no_plan p n e j i)) (sym (f e j i refl))
-  at_last (Whole e j i) false σ f = ap (searched p n e j i (no_plan p n e j i)) (sym (f e j i refl))
+  at_last : (b : Built) (o : std.Option (List ℕ)) → Finds b o → at_horizon p n (no_plan p n) b ≡ closed b o
+  at_last TooMuch o f = refl
+  at_last (NoRoom e) o f = refl
+  at_last (Whole e j i) (Some σ) f = ap (searched p n e j i (no_plan p n e j i)) (sym (f e j i refl))
+  at_last (Whole e j i) None f = ap (searched p n e j i (no_plan p n e j i)) (sym (f e j i refl))
 
-  at_on : (o : Outcome) (b : Built) (ok : Bool) (σ : Schedule) → Finds b ok σ → ends b ok ≡ false → at_horizon p n (λ e j i. o) b ≡ o
-  at_on o TooMuch ok σ f h = never refl h
-  at_on o (NoRoom e) ok σ f h = never refl h
-  at_on o (Whole e j i) true σ f h = never refl h
-  at_on o (Whole e j i) false σ f h = ap (searched p n e j i o) (sym (f e j i refl))
+  at_on : (q : Outcome) (b : Built) (o : std.Option (List ℕ)) → Finds b o → ends b o ≡ false → at_horizon p n (λ e j i. q) b ≡ q
+  at_on q TooMuch o f h = never refl h
+  at_on q (NoRoom e) o f h = never refl h
+  at_on q (Whole e j i) (Some σ) f h = never refl h
+  at_on q (Whole e j i) None f h = ap (searched p n e j i q) (sym (f e j i refl))
 
-module _ (p : Sheet) (limit k n : ℕ) (b : Built) (ok : Bool) (σ : Schedule) (e : b ≡ built_of limit k (theory p n)) (f : (x j i : ℕ) → b ≡ Whole x j i → answered ok σ ≡ first_plan p n) where
-  pub plan_ends : (h : ℕ) → ends b ok ≡ true → plan_from p limit k h n ≡ closed p n b ok σ
+module _ (p : Sheet) (limit k n : ℕ) (b : Built) (o : std.Option (List ℕ)) (e : b ≡ built_of limit k (theory p n)) (f : (x j i : ℕ) → b ≡ Whole x j i → entries_of n o ≡ first_plan p n) where
+  pub plan_ends : (h : ℕ) → ends b o ≡ true → plan_from p limit k h n ≡ closed p n b o
   unfolding plan_from
-  plan_ends zero d = ap (at_horizon p n (no_plan p n)) (sym e) ∙ at_ends p n (no_plan p n) b ok σ f d
-  plan_ends (suc h) d = ap (at_horizon p n (λ x j i. plan_from p limit k h (n + 1))) (sym e) ∙ at_ends p n (λ x j i. plan_from p limit k h (n + 1)) b ok σ f d
+  plan_ends zero d = ap (at_horizon p n (no_plan p n)) (sym e) ∙ at_ends p n (no_plan p n) b o f d
+  plan_ends (suc h) d = ap (at_horizon p n (λ x j i. plan_from p limit k h (n + 1))) (sym e) ∙ at_ends p n (λ x j i. plan_from p limit k h (n + 1)) b o f d
 
-  pub plan_last : plan_from p limit k 0 n ≡ closed p n b ok σ
+  pub plan_last : plan_from p limit k 0 n ≡ closed p n b o
   unfolding plan_from
-  plan_last = ap (at_horizon p n (no_plan p n)) (sym e) ∙ at_last p n b ok σ f
+  plan_last = ap (at_horizon p n (no_plan p n)) (sym e) ∙ at_last p n b o f
 
-  pub plan_on : (h : ℕ) → ends b ok ≡ false → plan_from p limit k (suc h) n ≡ plan_from p limit k h (n + 1)
+  pub plan_on : (h : ℕ) → ends b o ≡ false → plan_from p limit k (suc h) n ≡ plan_from p limit k h (n + 1)
   unfolding plan_from
-  plan_on h d = ap (at_horizon p n (λ x j i. plan_from p limit k h (n + 1))) (sym e) ∙ at_on p n (plan_from p limit k h (n + 1)) b ok σ f d
+  plan_on h d = ap (at_horizon p n (λ x j i. plan_from p limit k h (n + 1))) (sym e) ∙ at_on p n (plan_from p limit k h (n + 1)) b o f d
 
 -- a horizon tried with a table in the place of T is as if tried with T
 tried_as : (p : Sheet) (limit : ℕ) (T U : List ℕ) (n : ℕ) (a : Tried) (U' : List ℕ) → Alike T U → Tries p limit U n a U' → Tries p limit T n a U'
@@ -85,55 +86,55 @@ pub at_first : (p : Sheet) (limit : ℕ) (T : List ℕ) (last : ℕ) → At p li
 at_first p limit T last = record { most = omega arith; same = ap (λ m. plan_from p limit (room T) m 0) (omega arith); alike = alike_self T }
 
 pub at_next : (p : Sheet) (limit : ℕ) (T : List ℕ) (last n : ℕ) (U : List ℕ) (a : Tried) (U' : List ℕ) → At p limit T last n U → n < last → Tries p limit U n a U'
-    → ends a.built a.found.ok ≡ false → At p limit T last (n + 1) U'
+    → ends a.built a.found ≡ false → At p limit T last (n + 1) U'
 at_next p limit T last n U a U' h l t d =
     let w = tried_as p limit T U n a U' h.alike t in
     let one : last - n ≡ suc (last - (n + 1)) = omega arith in
     record {
       most = omega arith;
-      same = h.same ∙ ap (λ m. plan_from p limit (room T) m n) one ∙ plan_on p limit (room T) n a.built a.found.ok (take n a.found.schedule) w.built_is w.found_is (last - (n + 1)) d;
+      same = h.same ∙ ap (λ m. plan_from p limit (room T) m n) one ∙ plan_on p limit (room T) n a.built a.found w.built_is w.found_is (last - (n + 1)) d;
       alike = subst (Alike T) (sym w.rows_are) (left_alike limit (theory p n) T a.built w.built_is);
     }
 
 -- ---- the end
-closing_answer : (p : Sheet) (n : ℕ) (b : Built) (ok : Bool) (σ : Schedule) → closing n b ok ≡ (closed p n b ok σ).answer
-closing_answer p n TooMuch ok σ = refl
-closing_answer p n (NoRoom e) ok σ = refl
-closing_answer p n (Whole e j i) true σ = refl
-closing_answer p n (Whole e j i) false σ = refl
+closing_answer : (p : Sheet) (n : ℕ) (b : Built) (o : std.Option (List ℕ)) → closing n b o ≡ (closed p n b o).answer
+closing_answer p n TooMuch o = refl
+closing_answer p n (NoRoom e) o = refl
+closing_answer p n (Whole e j i) (Some σ) = refl
+closing_answer p n (Whole e j i) None = refl
 
-closing_rows : (p : Sheet) (n : ℕ) (b : Built) (ok : Bool) (σ : Schedule) (T : List ℕ) → compile_rows (compile (theory p n)).table T (Compiled.Answered b) ≡ plan_rows T (closed p n b ok σ) (closing n b ok)
-closing_rows p n TooMuch ok σ T = refl
-closing_rows p n (NoRoom e) ok σ T = refl
-closing_rows p n (Whole e j i) true σ T = refl
-closing_rows p n (Whole e j i) false σ T = refl
+closing_rows : (p : Sheet) (n : ℕ) (b : Built) (o : std.Option (List ℕ)) (T : List ℕ) → compile_rows (compile (theory p n)).table T (Ok b) ≡ plan_rows T (closed p n b o) (closing n b o)
+closing_rows p n TooMuch o T = refl
+closing_rows p n (NoRoom e) o T = refl
+closing_rows p n (Whole e j i) (Some σ) T = refl
+closing_rows p n (Whole e j i) None T = refl
 
-closing_schedule : (p : Sheet) (n : ℕ) (b : Built) (ok : Bool) (s S : List ℕ) → scheduled (closing n b ok) n s S ≡ plan_schedule S (closed p n b ok (take n s)) (closing n b ok)
-closing_schedule p n TooMuch ok s S = refl
-closing_schedule p n (NoRoom e) ok s S = refl
-closing_schedule p n (Whole e j i) true s S = refl
-closing_schedule p n (Whole e j i) false s S = refl
+closing_schedule : (p : Sheet) (n : ℕ) (b : Built) (o : std.Option (List ℕ)) (S : List ℕ) → scheduled n b o S ≡ plan_schedule S (closed p n b o) (closing n b o)
+closing_schedule p n TooMuch o S = refl
+closing_schedule p n (NoRoom e) o S = refl
+closing_schedule p n (Whole e j i) (Some σ) S = refl
+closing_schedule p n (Whole e j i) None S = refl
 
 module _ (p : Sheet) (limit : ℕ) (T S : List ℕ) (last n : ℕ) (U : List ℕ) (a : Tried) (U' : List ℕ) (h : At p limit T last n U) (t : Tries p limit U n a U') (r : Planned) (Z : List ℕ)
-    (q : r ≡ closing n a.built a.found.ok) (v : Z ≡ scheduled r n a.found.schedule S) where
+    (q : r ≡ closing n a.built a.found) (v : Z ≡ scheduled n a.built a.found S) where
   here : Tries p limit T n a U'
   here = tried_as p limit T U n a U' h.alike t
 
-  finished : plan_from p limit (room T) last 0 ≡ closed p n a.built a.found.ok (take n a.found.schedule) → Plans T S (plan_from p limit (room T) last 0) r U' Z
+  finished : plan_from p limit (room T) last 0 ≡ closed p n a.built a.found → Plans T S (plan_from p limit (room T) last 0) r U' Z
   finished e =
       subst (λ o. Plans T S o r U' Z) (sym e)
-      (subst (λ x. Plans T S (closed p n a.built a.found.ok (take n a.found.schedule)) x U' Z) (sym q) (record {
-        answer_is = closing_answer p n a.built a.found.ok (take n a.found.schedule);
-        rows_are = here.rows_are ∙ closing_rows p n a.built a.found.ok (take n a.found.schedule) T;
-        schedule_is = v ∙ ap (λ x. scheduled x n a.found.schedule S) q ∙ closing_schedule p n a.built a.found.ok a.found.schedule S;
+      (subst (λ x. Plans T S (closed p n a.built a.found) x U' Z) (sym q) (record {
+        answer_is = closing_answer p n a.built a.found;
+        rows_are = here.rows_are ∙ closing_rows p n a.built a.found T;
+        schedule_is = v ∙ closing_schedule p n a.built a.found S;
       }))
 
   -- with a horizon that ends it, or with the last one
-  pub plan_ended : ends a.built a.found.ok ≡ true → Plans T S (plan_from p limit (room T) last 0) r U' Z
-  plan_ended d = finished (h.same ∙ plan_ends p limit (room T) n a.built a.found.ok (take n a.found.schedule) here.built_is here.found_is (last - n) d)
+  pub plan_ended : ends a.built a.found ≡ true → Plans T S (plan_from p limit (room T) last 0) r U' Z
+  plan_ended d = finished (h.same ∙ plan_ends p limit (room T) n a.built a.found here.built_is here.found_is (last - n) d)
 
   pub plan_done : last ≤ n → Plans T S (plan_from p limit (room T) last 0) r U' Z
   plan_done l =
       let m = h.most in
       let z : last - n ≡ 0 = omega arith in
-      finished (h.same ∙ ap (λ x. plan_from p limit (room T) x n) z ∙ plan_last p limit (room T) n a.built a.found.ok (take n a.found.schedule) here.built_is here.found_is)
+      finished (h.same ∙ ap (λ x. plan_from p limit (room T) x n) z ∙ plan_last p limit (room T) n a.built a.found here.built_is here.found_is)

@@ -2,16 +2,13 @@
 use mathlib.Core.Path.{◌≡◌, refl, sym, ap, subst}
 use mathlib.Core.List.{List}
 use Prim.Native.Nat.{ℕ, ◌≤◌, ◌<◌}
+use Rattle.std.specs.Prelude.{Ok, Err}
 use Rattle.paper.specs.declared.Fault.{Fault}
 use Rattle.paper.specs.declared.Fault.TheVariants.{ShortSchedule, NoStart}
 use Rattle.paper.specs.declared.Planned.{Planned}
-use Rattle.paper.specs.declared.Trailer.{Trailer}
-use Rattle.paper.specs.Sheet.{Sheet, start_count, sheet_of}
+use Rattle.paper.specs.Sheet.{Sheet, start_count, decode}
 use Rattle.paper.specs.Operations.{on_sheet, Outcome, stopped, plan_sheet, plan_of}
 use Rattle.paper.proofs.Demand2.{sheet_short, sheet_no_start, plan_decoded}
-use Rattle.sheet.specs.declared.Reading.TheVariants.{Refused, Accepted}
-use Rattle.sheet.specs.Reading.{reading_of}
-use Rattle.sheet.proofs.Laws.{taken, not_taken}
 use Rattle.plan.specs.Horizons.{Plans}
 
 -- a refusal leaves both buffers as they were lent
@@ -31,9 +28,9 @@ module _ (p : Sheet) (limit k bytes : ℕ) (T S : List ℕ) where
 
 -- from the sheet's bytes
 module _ (b : List ℕ) (limit k bytes : ℕ) (T S : List ℕ) where
-  pub plan_refused : (f : Fault) → reading_of b ≡ Refused f → Plans T S (plan_of b limit k bytes) (Planned.Refused f) T S
+  pub plan_refused : (f : Fault) → Err f ≡ decode b → Plans T S (plan_of b limit k bytes) (Planned.Refused f) T S
   unfolding plan_of
-  plan_refused f e = refused_plans T S f (plan_of b limit k bytes) (ap (on_sheet (λ f. stopped (Planned.Refused f)) (plan_sheet limit k bytes)) (not_taken b f e))
+  plan_refused f e = refused_plans T S f (plan_of b limit k bytes) (ap (on_sheet (λ f. stopped (Planned.Refused f)) (plan_sheet limit k bytes)) (sym e))
 
-  pub plan_accepted : (t : Trailer) → reading_of b ≡ Accepted t → plan_sheet limit k bytes (sheet_of b t) ≡ plan_of b limit k bytes
-  plan_accepted t e = sym (plan_decoded b (sheet_of b t) (taken b t e).sheet limit k bytes)
+  pub plan_accepted : (p : Sheet) → Ok p ≡ decode b → plan_sheet limit k bytes p ≡ plan_of b limit k bytes
+  plan_accepted p e = sym (plan_decoded b p (sym e) limit k bytes)

@@ -11,10 +11,10 @@ use lib.Seq.{take-suc, take-suc-set, drop-set-lt, drop-drop}
 use Rattle.paper.specs.declared.Trailer.{Trailer}
 use Rattle.paper.specs.declared.Built.{Built}
 use Rattle.paper.specs.declared.Built.TheVariants.{TooMuch, NoRoom, Whole}
-use Rattle.paper.specs.declared.Compiled.{Compiled}
+use Rattle.std.specs.Prelude.{Ok}
 use Rattle.paper.specs.Lists.{each}
 use Rattle.paper.specs.Counting.{bit}
-use Rattle.paper.specs.Sheet.{Sheet, Fine, Bounded, is_start, sheet_of}
+use Rattle.paper.specs.Sheet.{Sheet, Fine, Bounded, is_start}
 use Rattle.paper.specs.Clauses.{Clauses, theory}
 use Rattle.paper.specs.Circuit.{Table, compile, built_of}
 use Rattle.paper.specs.Operations.{row_size, row_bytes, room, good_row_at, table_of, Schedule, first_plan}
@@ -48,7 +48,7 @@ filled_alike t {T} {U} h =
     ∙ ap (λ x. each t row_bytes ++ replicate (row_size * room T - length (each t row_bytes)) 0 ++ x) h.beyond
 
 -- what compile leaves does not depend on the rows that were there
-pub rows_alike : (t : Table) {T U : List ℕ} (r : Built) → Alike T U → compile_rows t U (Compiled.Answered r) ≡ compile_rows t T (Compiled.Answered r)
+pub rows_alike : (t : Table) {T U : List ℕ} (r : Built) → Alike T U → compile_rows t U (Ok r) ≡ compile_rows t T (Ok r)
 rows_alike t TooMuch h = filled_alike [] h
 rows_alike t (NoRoom e) h = filled_alike [] h
 rows_alike t (Whole e k i) h = filled_alike t h
@@ -57,7 +57,7 @@ filled_is_alike : (t : Table) (T : List ℕ) → length t ≤ room T → Alike T
 filled_is_alike t T l = record { same_length = filled_length t T l; beyond = filled_rest t T l }
 
 -- and it stands in the place of what was lent
-pub left_alike : (limit : ℕ) (S : Clauses) (T : List ℕ) (r : Built) → r ≡ built_of limit (room T) S → Alike T (compile_rows (compile S).table T (Compiled.Answered r))
+pub left_alike : (limit : ℕ) (S : Clauses) (T : List ℕ) (r : Built) → r ≡ built_of limit (room T) S → Alike T (compile_rows (compile S).table T (Ok r))
 left_alike limit S T TooMuch e = filled_is_alike [] T (omega arith)
 left_alike limit S T (NoRoom x) e = filled_is_alike [] T (omega arith)
 left_alike limit S T (Whole x k i) e = filled_is_alike (compile S).table T (answered limit (room T) S x k i (sym e)).within_room
@@ -82,9 +82,9 @@ whole_rows p fine n h limit T e k i q t c b =
 
 -- what compile promised of a horizon whose circuit is whole
 module _ (p : Sheet) (fine : Fine p) (n : ℕ) (h : n ≤ 8) (limit : ℕ) (T U : List ℕ) (r : Built) (e k i : ℕ) (b : r ≡ built_of limit (room T) (theory p n))
-    (u : U ≡ compile_rows (compile (theory p n)).table T (Compiled.Answered r)) (q : r ≡ Whole e k i) where
+    (u : U ≡ compile_rows (compile (theory p n)).table T (Ok r)) (q : r ≡ Whole e k i) where
   left_filled : U ≡ filled (compile (theory p n)).table T
-  left_filled = u ∙ ap (λ x. compile_rows (compile (theory p n)).table T (Compiled.Answered x)) q
+  left_filled = u ∙ ap (λ x. compile_rows (compile (theory p n)).table T (Ok x)) q
 
   pub left_rows : (t : Trailer) → Counts p t → Bounded t → Rows t n U k i
   left_rows t c w = subst (λ X. Rows t n X k i) (sym left_filled) (whole_rows p fine n h limit T e k i (sym b ∙ q) t c w)
@@ -118,8 +118,7 @@ pub copied_all : (S s Z : List ℕ) (i n : ℕ) → i ≡ n → Copied S s Z i �
 copied_all S s Z i n e c = sym (take-append-drop i Z) ∙ (λ j. c.front j ++ c.rest j) ∙ ap (λ k. take k s ++ drop k S) e
 
 -- ---- the starts, from the words that were filled
-pub filled_starts : (b : List ℕ) (t : Trailer) (ms : List ℕ)
-    → ((w : ℕ) → w < 64 → (j : ℕ) → j < 64 → bit (get_or ms w 0) j ≡ (ltb (64 * w + j) (2 ^ t.facts) && is_start (sheet_of b t) (64 * w + j)))
-    → Starts (sheet_of b t) ms
-unfolding sheet_of
-filled_starts b t ms h = record { starts = λ w l. record { says = h w l } }
+pub filled_starts : (p : Sheet) (ms : List ℕ)
+    → ((w : ℕ) → w < 64 → (j : ℕ) → j < 64 → bit (get_or ms w 0) j ≡ (ltb (64 * w + j) (2 ^ p.F) && is_start p (64 * w + j)))
+    → Starts p ms
+filled_starts p ms h = record { starts = λ w l. record { says = h w l } }

@@ -1,89 +1,61 @@
 // The operation plan: horizons in order, both limits afresh at each; the first that gives 7, 8 or a schedule ends it.
 #![tactic(auto)]
 
-ghost use Rattle.std.specs.Prelude.{◌≡◌, false, ◌++◌, ◌≤◌, length, take, drop};
-ghost use Rattle.paper.specs.Sheet as paper;
+ghost use Rattle.std.specs.Prelude.{◌≡◌, ◌++◌, ◌≤◌, length, take, drop};
 ghost use Rattle.paper.specs.Operations as operation;
 ghost use Rattle.paper.specs.Answers.{plan_rows, plan_schedule};
-ghost use Rattle.sheet.specs.Reading.{Whole};
+ghost use Rattle.sheet.specs.Contents.{contents};
 ghost use Rattle.prefixes.specs.Words.{Starts};
 ghost use Rattle.plan.specs.Horizons as spec;
 
-use paper::{Built, Fault, Planned, Trailer};
-use seek::Found;
-use sheet::Reading;
+use paper::{Built, Fault, Planned};
+use prefixes::Circuit;
+use sheet::Sheet;
 
 // A horizon that was tried: what compile answered, and what the search found in a whole circuit.
 #[derive(Clone, Copy)]
 pub struct Tried {
     pub built: Built,
-    pub found: Found,
-}
-
-// No schedule.
-fn nothing() -> Found
-    ensures { result.ok ≡ false }
-{
-    Found {
-        ok: false,
-        schedule: [0u8; 8],
-    }
+    pub found: Option<[u8; 8]>,
 }
 
 // Compile at horizon n, and where the circuit is whole look for the first plan.
 fn try_horizon(
-    b: &[u8],
-    t: Trailer,
+    sheet: Sheet,
     n: usize,
     limit: u32,
     table: &mut [u8],
-    starts: &[u64],
+    starts: &[u64; 64],
     values: &mut [u64],
 ) -> Tried
-    requires { Whole b.now t × paper.Fine (paper.sheet_of b.now t) × (n ≤ 8) × Starts (paper.sheet_of b.now t) starts.now × (length starts.now ≡ 64) × (length values.old ≡ 65536) }
-    ensures { spec.Tries (paper.sheet_of b.now t) limit table.old n result table.new }
+    requires { (n ≤ 8) × Starts (contents sheet) starts.now × (length values.old ≡ 65536) }
+    ensures { spec.Tries (contents sheet.entry) limit table.old n result table.new }
 {
-    let built = compile::compile_theory(b, t, n, table, limit);
+    let built = compile::compile_theory(sheet, n, table, limit);
     match built {
-        Built::TooMuch => Tried {
-            built: built,
-            found: nothing(),
-        },
-        Built::NoRoom(_) => Tried {
-            built: built,
-            found: nothing(),
-        },
-        Built::Whole(_, count, root) => Tried {
-            built: built,
-            found: seek::seek(t, n, table, count, root, starts, values, [0u8; 8], 0, n),
-        },
+        Built::TooMuch | Built::NoRoom(_) => Tried { built, found: None },
+        Built::Whole(_, count, root) => {
+            let circuit = Circuit {
+                sheet,
+                steps: n,
+                table,
+                count,
+                root,
+                starts,
+            };
+            let found = seek::seek(&circuit, values, [0u8; 8], 0, n);
+            Tried { built, found }
+        }
     }
 }
 
 // The planner ends with this horizon: a limit was passed, or there is a plan.
-fn ends(b: Built, ok: bool) -> bool
-    ensures { result ≡ spec.ends b ok }
+fn ends(tried: Tried) -> bool
+    ensures { result ≡ spec.ends tried.built tried.found }
 {
-    match b {
-        Built::TooMuch => true,
-        Built::NoRoom(_) => true,
-        Built::Whole(_, _, _) => ok,
-    }
-}
-
-// The answer if it ends with horizon n.
-fn closing(n: u32, b: Built, ok: bool) -> Planned
-    ensures { result ≡ spec.closing n b ok }
-{
-    match b {
-        Built::TooMuch => Planned::TooMuch(n),
-        Built::NoRoom(e) => Planned::NoRoom(n, e),
-        Built::Whole(e, k, i) => {
-            if ok {
-                return Planned::Found(n, e, k, i);
-            }
-            Planned::NoPlan(n, e, k, i)
-        }
+    match tried.built {
+        Built::TooMuch | Built::NoRoom(_) => true,
+        Built::Whole(_, _, _) => tried.found.is_some(),
     }
 }
 
@@ -97,68 +69,74 @@ fn copy(out: &mut [u8], s: [u8; 8], n: usize)
     }
 }
 
-// The schedule buffer after an answer: written on 0 alone.
-fn write(out: &mut [u8], s: [u8; 8], n: usize, r: Planned)
+// The answer where the circuit is whole, with the plan's entries in the schedule buffer if there is a plan.
+fn finish_whole(
+    n: usize,
+    effort: u32,
+    count: u32,
+    root: u32,
+    found: Option<[u8; 8]>,
+    out: &mut [u8],
+) -> Planned
     requires { (n ≤ 8) × (n ≤ length out.old) }
-    ensures { out.new ≡ spec.scheduled r n s out.old }
+    ensures answer { result ≡ spec.plan_or_none n effort count root found }
+    ensures schedule { out.new ≡ spec.written n found out.old }
 {
-    match r {
-        Planned::Refused(_) => {}
-        Planned::TooMuch(_) => {}
-        Planned::NoRoom(_, _) => {}
-        Planned::NoPlan(_, _, _, _) => {}
-        Planned::Found(_, _, _, _) => copy(out, s, n),
+    match found {
+        None => Planned::NoPlan(n as u32, effort, count, root),
+        Some(entries) => {
+            copy(out, entries, n);
+            Planned::Found(n as u32, effort, count, root)
+        }
     }
 }
 
 // The answer and the schedule buffer at the last horizon that was tried.
-fn finish(n: usize, a: Tried, out: &mut [u8]) -> Planned
+fn finish(n: usize, tried: Tried, out: &mut [u8]) -> Planned
     requires { (n ≤ 8) × (n ≤ length out.old) }
-    ensures answer { result ≡ spec.closing n a.built a.found.ok }
-    ensures schedule { out.new ≡ spec.scheduled result n a.found.schedule out.old }
+    ensures answer { result ≡ spec.closing n tried.built tried.found }
+    ensures schedule { out.new ≡ spec.scheduled n tried.built tried.found out.old }
 {
-    let built = a.built;
-    let found = a.found;
-    let entries = found.schedule;
-    let r = closing(n as u32, built, found.ok);
-    write(out, entries, n, r);
-    r
+    match tried.built {
+        Built::TooMuch => Planned::TooMuch(n as u32),
+        Built::NoRoom(effort) => Planned::NoRoom(n as u32, effort),
+        Built::Whole(effort, count, root) => {
+            finish_whole(n, effort, count, root, tried.found, out)
+        }
+    }
 }
 
 // Horizons 0, 1, .. up to the sheet's.
-fn horizons(b: &[u8], t: Trailer, limit: u32, table: &mut [u8], schedule: &mut [u8]) -> Planned
-    requires { Whole b.now t × paper.Fine (paper.sheet_of b.now t) × (t.horizon ≤ length schedule.old) }
-    ensures { spec.Plans table.old schedule.old (operation.plan_from (paper.sheet_of b.now t) limit (operation.room table.old) t.horizon 0) result table.new schedule.new }
+fn horizons(sheet: Sheet, limit: u32, table: &mut [u8], schedule: &mut [u8]) -> Planned
+    requires { sheet.parts.trailer.horizon ≤ length schedule.old }
+    ensures { spec.Plans table.old schedule.old (operation.plan_from (contents sheet.entry) limit (operation.room table.old) sheet.entry.parts.trailer.horizon 0) result table.new schedule.new }
 {
-    let starts = starts::start_words(b, t);
+    let starts = starts::start_words(sheet);
     let mut values = [0u64; 65536];
-    let last = t.horizon;
+    let last = sheet.parts.trailer.horizon;
     let mut n: usize = 0;
     while n < last {
-        let a = try_horizon(b, t, n, limit, table, &starts, &mut values);
-        let built = a.built;
-        let found = a.found;
-        if ends(built, found.ok) {
-            return finish(n, a, schedule);
+        let tried = try_horizon(sheet, n, limit, table, &starts, &mut values);
+        if ends(tried) {
+            return finish(n, tried, schedule);
         }
-        n = n + 1;
+        n += 1;
     }
-    let a = try_horizon(b, t, n, limit, table, &starts, &mut values);
-    finish(n, a, schedule)
+    let tried = try_horizon(sheet, n, limit, table, &starts, &mut values);
+    finish(n, tried, schedule)
 }
 
 // A sheet that was accepted: a schedule buffer of fewer than H bytes is refused, and so is a sheet without a start.
-fn plan_sheet(b: &[u8], t: Trailer, limit: u32, table: &mut [u8], schedule: &mut [u8]) -> Planned
-    requires { Whole b.now t × paper.Fine (paper.sheet_of b.now t) }
-    ensures { spec.Plans table.old schedule.old (operation.plan_sheet limit (operation.room table.old) (length schedule.old) (paper.sheet_of b.now t)) result table.new schedule.new }
+fn plan_sheet(sheet: Sheet, limit: u32, table: &mut [u8], schedule: &mut [u8]) -> Planned
+    ensures { spec.Plans table.old schedule.old (operation.plan_sheet limit (operation.room table.old) (length schedule.old) (contents sheet.entry)) result table.new schedule.new }
 {
-    if schedule.len() < t.horizon {
+    if schedule.len() < sheet.parts.trailer.horizon {
         return Planned::Refused(Fault::ShortSchedule);
     }
-    if starts::start_count(b, t) == 0 {
+    if starts::start_count(sheet) == 0 {
         return Planned::Refused(Fault::NoStart);
     }
-    horizons(b, t, limit, table, schedule)
+    horizons(sheet, limit, table, schedule)
 }
 
 // The operation plan.
@@ -167,8 +145,8 @@ pub fn plan(b: &[u8], limit: u32, table: &mut [u8], schedule: &mut [u8]) -> Plan
     ensures rows { table.new ≡ plan_rows table.old (operation.plan_of b.now limit (operation.room table.old) (length schedule.old)) result }
     ensures schedule { schedule.new ≡ plan_schedule schedule.old (operation.plan_of b.now limit (operation.room table.old) (length schedule.old)) result }
 {
-    match sheet::read(b) {
-        Reading::Refused(f) => Planned::Refused(f),
-        Reading::Accepted(t) => plan_sheet(b, t, limit, table, schedule),
+    match Sheet::read(b) {
+        Err(f) => Planned::Refused(f),
+        Ok(sheet) => plan_sheet(sheet, limit, table, schedule),
     }
 }

@@ -10,9 +10,11 @@ use lib.ListN.{length, get_or, take, drop, replicate, length-append, length-repl
 use lib.Seq.{take_at}
 use borrow.Author.Tests.{leb-true, lt-ltb, le-ltb}
 use Rattle.paper.specs.declared.Built.{Built}
+use Rattle.std.specs.Prelude.{Result, Ok, Err}
+use Rattle.paper.specs.declared.Fault.{Fault}
 use Rattle.paper.specs.declared.Fault.TheVariants.{ShortSchedule}
 use Rattle.paper.specs.declared.Planned.{Planned}
-use Rattle.paper.specs.Sheet.{Sheet, Decoded, refused, decoded, decode, start_count}
+use Rattle.paper.specs.Sheet.{Sheet, decode, start_count}
 use Rattle.paper.specs.Step.{is_plan}
 use Rattle.paper.specs.Clauses.{theory}
 use Rattle.paper.specs.Circuit.{Table, built_of}
@@ -64,9 +66,9 @@ pub plan_counted : (b : List ℕ) (limit k bytes : ℕ) → Counted bytes (plan_
 unfolding plan_of
 plan_counted b limit k bytes = read (decode b)
   where
-    read : (d : Decoded) → Counted bytes (on_sheet (λ f. stopped (Planned.Refused f)) (plan_sheet limit k bytes) d)
-    read (refused f) = none_counted _ [] refl
-    read (decoded p) = sheet_counted p limit k bytes
+    read : (d : Result Sheet Fault) → Counted bytes (on_sheet (λ f. stopped (Planned.Refused f)) (plan_sheet limit k bytes) d)
+    read (Err f) = none_counted _ [] refl
+    read (Ok p) = sheet_counted p limit k bytes
 
 -- ---- the entries in the schedule buffer
 no_entry : (σ : List ℕ) → length σ ≡ 0 → [] ≡ σ

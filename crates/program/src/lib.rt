@@ -14,11 +14,8 @@ fn entries(p: Planned) -> usize
     ensures { result ≡ spec.entries p }
 {
     match p {
-        Planned::Refused(_) => 0,
-        Planned::TooMuch(_) => 0,
-        Planned::NoRoom(_, _) => 0,
-        Planned::NoPlan(_, _, _, _) => 0,
         Planned::Found(n, _, _, _) => n as usize,
+        _ => 0,
     }
 }
 

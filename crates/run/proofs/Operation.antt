@@ -1,5 +1,5 @@
 -- The operation run: what its test of the call says, and its answer. Assumes nothing.
-use mathlib.Core.Path.{◌≡◌, sym, ap}
+use mathlib.Core.Path.{◌≡◌, ap}
 use mathlib.Core.Bool.{true, ◌&&◌}
 use mathlib.Core.List.{List}
 use Prim.Native.Nat.{ℕ, ◌^◌, ◌≤◌, ◌<◌}
@@ -9,17 +9,12 @@ use lib.Dec.{ltb, leb}
 use lib.ListN.{length, get_or}
 use lib.Pow.{pow_mono}
 use borrow.Author.Tests.{ltb-true, leb-true}
-use Rattle.paper.specs.declared.Trailer.{Trailer}
-use Rattle.paper.specs.declared.Fault.{Fault}
+use Rattle.std.specs.Prelude.{Ok}
 use Rattle.paper.specs.declared.Run.{Run}
-use Rattle.paper.specs.declared.Ended.{Ended}
-use Rattle.paper.specs.Sheet.{Sheet, Fine, fits, sheet_of, is_goal}
+use Rattle.paper.specs.Sheet.{Sheet, Fine, fits, is_goal}
 use Rattle.paper.specs.Step.{entries_fit, run}
-use Rattle.paper.specs.Operations.{on_sheet, good_run, ended, run_sheet, run_of}
+use Rattle.paper.specs.Operations.{good_run, ended, run_sheet}
 use Rattle.paper.proofs.Basic.{and_e}
-use Rattle.sheet.specs.declared.Reading.TheVariants.{Refused, Accepted}
-use Rattle.sheet.specs.Reading.{reading_of}
-use Rattle.sheet.proofs.Laws.{taken, not_taken}
 use Rattle.run.proofs.Laws.{entry_fits}
 
 -- a call that is not refused, of a well-formed sheet
@@ -46,14 +41,5 @@ good p s σ fine e =
     }
 
 pub run_went : (p : Sheet) (s : ℕ) (σ : List ℕ) (r : Run) → good_run p s σ ≡ true → r ≡ run p s σ
-    → Ended.Went r.done r.state (r.whole && is_goal p r.state) ≡ run_sheet s σ p
-run_went p s σ r e w = rw e (ap (ended p) w)
-
-module _ (b : List ℕ) (s : ℕ) (σ : List ℕ) where
-  pub run_refused : (f : Fault) → reading_of b ≡ Refused f → Ended.Refused f ≡ run_of b s σ
-  unfolding run_of
-  run_refused f e = sym (ap (on_sheet Ended.Refused (run_sheet s σ)) (not_taken b f e))
-
-  pub run_accepted : (t : Trailer) → reading_of b ≡ Accepted t → run_sheet s σ (sheet_of b t) ≡ run_of b s σ
-  unfolding run_of
-  run_accepted t e = sym (ap (on_sheet Ended.Refused (run_sheet s σ)) (taken b t e).sheet)
+    → Ok (record { done = r.done; state = r.state; goal = r.whole && is_goal p r.state }) ≡ run_sheet s σ p
+run_went p s σ r e w = rw e (ap (λ x. Ok (ended p x)) w)

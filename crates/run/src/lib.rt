@@ -4,15 +4,15 @@
 ghost use Rattle.std.specs.Prelude.{◌≡◌, true, not, ◌&&◌, ◌||◌, List, [], ℕ, ◌-◌, ◌^◌, ◌≤◌, ◌<◌, length, get_or, leb};
 ghost use Rattle.paper.specs.Counting.{bit, some_below};
 ghost use Rattle.paper.specs.Lists.{all};
-ghost use Rattle.paper.specs.Sheet.{Sheet, Fine, sheet_of};
+ghost use Rattle.paper.specs.Sheet as decoded;
 ghost use Rattle.paper.specs.Operations as operation;
-ghost use Rattle.sheet.specs.Reading.{Whole};
+ghost use Rattle.sheet.specs.Contents.{contents};
 ghost use Rattle.paper.specs.Step as paper;
 ghost use Rattle.sheet.specs.Writes.{Writes};
 ghost use Rattle.run.specs.Firing as spec;
 
-use paper::{Ended, Fault, Moment, Stepped, Trailer};
-use sheet::Reading;
+use paper::{Ended, Fault, Moment, Stepped};
+use sheet::Sheet;
 
 // Every fact in one is 1 and every fact in nil is 0, however many facts the masks are of.
 fn meets(one: u16, nil: u16, s: u16) -> bool
@@ -62,7 +62,7 @@ fn apply(s: u16, ones: u16, zeros: u16) -> u16
 // Action a, numbered from 1, in state s: needs before clash.
 fn act(needs: [[u16; 2]; 12], rules: [[u16; 5]; 24], n: usize, a: usize, s: u16) -> Stepped
     requires { (n ≤ 24) × (1 ≤ a) × (a ≤ 12) }
-    ensures { (p : Sheet) → Writes p needs rules n → a ≤ p.A → s < 2 ^ p.F → result ≡ paper.act p (a - 1) s }
+    ensures { (p : decoded.Sheet) → Writes p needs rules n → a ≤ p.A → s < 2 ^ p.F → result ≡ paper.act p (a - 1) s }
 {
     let i = a - 1;
     let need = needs[i];
@@ -80,7 +80,7 @@ fn act(needs: [[u16; 2]; 12], rules: [[u16; 5]; 24], n: usize, a: usize, s: u16)
 // An entry of a schedule in state s: 0 is idle.
 pub fn step(needs: [[u16; 2]; 12], rules: [[u16; 5]; 24], n: usize, e: usize, s: u16) -> Stepped
     requires { (n ≤ 24) × (e ≤ 12) }
-    ensures { (p : Sheet) → Writes p needs rules n → e ≤ p.A → s < 2 ^ p.F → result ≡ paper.step p e s }
+    ensures { (p : decoded.Sheet) → Writes p needs rules n → e ≤ p.A → s < 2 ^ p.F → result ≡ paper.step p e s }
 {
     if e == 0 {
         return Stepped::Ran(s);
@@ -97,7 +97,7 @@ pub fn walk(
     s: u16,
 ) -> paper::Run
     requires { (n ≤ 24) × (length schedule.now ≤ 8) × ((i : ℕ) → i < length schedule.now → get_or schedule.now i 0 ≤ 12) }
-    ensures { (result.done ≤ 8) × ((p : Sheet) → Writes p needs rules n → paper.entries_fit p schedule.now ≡ true → s < 2 ^ p.F → result ≡ paper.run p s schedule.now) }
+    ensures { (result.done ≤ 8) × ((p : decoded.Sheet) → Writes p needs rules n → paper.entries_fit p schedule.now ≡ true → s < 2 ^ p.F → result ≡ paper.run p s schedule.now) }
 {
     let mut state = s;
     let mut at = Moment::first();
@@ -145,39 +145,40 @@ fn entries_fit(schedule: &[u8], a: usize) -> bool
 }
 
 // The state is one of F facts, and the schedule has 0..8 entries, each 0..A.
-fn good_run(t: Trailer, state: u32, schedule: &[u8]) -> bool
-    requires { t.facts ≤ 12 }
-    ensures { (b : List ℕ) → result ≡ operation.good_run (sheet_of b t) state schedule.now }
+#[tactic(auto, unfolding(paper::specs::Operations::good_run, paper::specs::Step::entries_fit))]
+fn good_run(sheet: Sheet, state: u32, schedule: &[u8]) -> bool
+    ensures { result ≡ operation.good_run (contents sheet.entry) state schedule.now }
 {
-    if !sheet::fits(t.facts, state) {
+    if !sheet::fits(sheet.facts(), state) {
         return false;
     }
     if 8 < schedule.len() {
         return false;
     }
-    entries_fit(schedule, t.actions)
+    entries_fit(schedule, sheet.actions())
 }
 
-fn run_sheet(b: &[u8], t: Trailer, state: u32, schedule: &[u8]) -> Ended
-    requires { Whole b.now t × Fine (sheet_of b.now t) }
-    ensures { result ≡ operation.run_sheet state schedule.now (sheet_of b.now t) }
+fn run_sheet(sheet: Sheet, state: u32, schedule: &[u8]) -> Result<Ended, Fault>
+    ensures { result ≡ operation.run_sheet state schedule.now (contents sheet.entry) }
 {
-    if !good_run(t, state, schedule) {
-        return Ended::Refused(Fault::BadCall);
+    if !good_run(sheet, state, schedule) {
+        return Err(Fault::BadCall);
     }
-    let needs = sheet::needs(b, t);
-    let rules = sheet::rules(b, t);
-    let r = walk(needs, rules, t.rules, schedule, state as u16);
-    let goal = starts::is_goal(b, t, r.state);
-    Ended::Went(r.done as u32, r.state, r.whole & goal)
+    let count = sheet.parts.trailer.rules;
+    let r = walk(sheet.needs(), sheet.rules(), count, schedule, state as u16);
+    let goal = starts::is_goal(sheet, r.state);
+    Ok(Ended {
+        done: r.done as u32,
+        state: r.state,
+        goal: r.whole & goal,
+    })
 }
 
 // The operation run.
-pub fn run(b: &[u8], state: u32, schedule: &[u8]) -> Ended
+#[tactic(auto, unfolding(paper::specs::Operations::run_of))]
+pub fn run(b: &[u8], state: u32, schedule: &[u8]) -> Result<Ended, Fault>
     ensures { result ≡ operation.run_of b.now state schedule.now }
 {
-    match sheet::read(b) {
-        Reading::Refused(f) => Ended::Refused(f),
-        Reading::Accepted(t) => run_sheet(b, t, state, schedule),
-    }
+    let sheet = Sheet::read(b)?;
+    run_sheet(sheet, state, schedule)
 }

@@ -1,75 +1,40 @@
 // The planner's search: a step's entries in order, then one step fewer left; a prefix that cannot succeed from every start is dropped.
 #![tactic(auto)]
 
-ghost use Rattle.std.specs.Prelude.{◌+◌, ◌≤◌, ◌≡◌, length, take};
-ghost use Rattle.paper.specs.Sheet as paper;
-ghost use Rattle.paper.specs.Operations as operation;
-ghost use Rattle.paper.specs.Search.{passes};
-ghost use Rattle.variables.specs.Numbering.{Counts};
-ghost use Rattle.prefixes.specs.Words.{Rows, Starts};
-ghost use Rattle.seek.specs.Seeking.{Says};
+ghost use Rattle.std.specs.Prelude.{◌≡◌, ◌+◌, ◌≤◌, length, take};
+ghost use Rattle.sheet.specs.Contents.{contents};
+ghost use Rattle.prefixes.specs.Circuits.{passes_of};
+ghost use Rattle.seek.specs.Seeking.{Says, entries_of};
 
-use paper::Trailer;
+use prefixes::Circuit;
 
-// A schedule, if one was found.
-#[derive(Clone, Copy)]
-pub struct Found {
-    pub ok: bool,
-    pub schedule: [u8; 8],
-}
-
-// The first schedule that begins with the first entries and has so many steps more.
+// The first schedule, if there is one, that begins with the first entries and has so many steps more.
 pub fn seek(
-    t: Trailer,
-    n: usize,
-    table: &[u8],
-    count: u32,
-    root: u32,
-    starts: &[u64],
+    circuit: &Circuit,
     values: &mut [u64],
     schedule: [u8; 8],
     at: usize,
     left: usize,
-) -> Found
-    requires { Rows t n table.now count root × (at + left ≤ 8) × (length starts.now ≡ 64) × (length values.old ≡ 65536) }
-    ensures { (p : paper.Sheet) → Counts p t → Starts p starts.now → Says (passes p n (operation.table_of table.now count) root) t.actions left (take at schedule) result.ok (take (at + left) result.schedule) }
+) -> Option<[u8; 8]>
+    requires { (at + left ≤ 8) × (length values.old ≡ 65536) }
+    ensures { Says (passes_of circuit.now) (contents circuit.now.sheet).A left (take at schedule) (entries_of (at + left) result) }
 {
-    if !prefixes::passes(t, n, schedule, at, table, count, root, starts, values) {
-        return Found {
-            ok: false,
-            schedule: schedule,
-        };
+    if !circuit.passes(schedule, at, values) {
+        return None;
     }
     if left == 0 {
-        return Found {
-            ok: true,
-            schedule: schedule,
-        };
+        return Some(schedule);
     }
-    let last = t.actions;
+    let last = circuit.sheet.actions();
     let mut e: usize = 0;
     while e <= last {
         let mut next = schedule;
         next[at] = e as u8;
-        let f = seek(
-            t,
-            n,
-            table,
-            count,
-            root,
-            starts,
-            values,
-            next,
-            at + 1,
-            left - 1,
-        );
-        if f.ok {
-            return f;
+        let found = seek(circuit, values, next, at + 1, left - 1);
+        if found.is_some() {
+            return found;
         }
-        e = e + 1;
+        e += 1;
     }
-    Found {
-        ok: false,
-        schedule: schedule,
-    }
+    None
 }

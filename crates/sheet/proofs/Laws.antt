@@ -10,19 +10,17 @@ use lib.Dec.{eqb, leb}
 use lib.ListN.{length, length-map, get_or, get_or-eq_default}
 use borrow.Author.Tests.{leb-true, eqb-true}
 use Rattle.paper.specs.declared.Trailer.{Trailer}
-use Rattle.paper.specs.declared.Fault.{Fault}
-use Rattle.paper.specs.declared.Fault.TheVariants.{Unmarked, Unbounded, Disagrees}
+use Rattle.paper.specs.declared.Fault.TheVariants.{Unmarked, Unbounded, Disagrees, BadRow}
 use Rattle.paper.specs.Lists.{filter, up_from}
-use Rattle.paper.specs.Sheet.{Sheet, Decoded, refused, decoded, trailer, trailer_length, body_at, body_length, marked, within, Bounded, agrees, need_at, rule_at, offsets, needs_at, rules_at, starts_at, goals_at, bad_rows, sheet_of, no_row, decode}
+use Rattle.paper.specs.Sheet.{Sheet, trailer, trailer_length, body_at, body_length, marked, within, Bounded, agrees, need_at, rule_at, offsets, needs_at, rules_at, starts_at, goals_at, bad_rows, sheet_of, no_row, decode}
 use Rattle.paper.specs.Step.{need_of, rule_of}
 use Rattle.paper.proofs.Basic.{and_e, by}
-use Rattle.paper.proofs.Decoded.{within_bounded, length_count, accepted}
+use Rattle.paper.proofs.Decoded.{within_bounded, length_count}
 use Rattle.bits.proofs.Filled.{value_at_lem, rows_of}
 use Rattle.sheet.specs.declared.Part.TheVariants.{Needs, Rules, Clauses}
-use Rattle.sheet.specs.declared.Found.{Found}
-use Rattle.sheet.specs.declared.Found.TheVariants.{At, Nothing}
-use Rattle.sheet.specs.declared.Reading.TheVariants.{Refused, Accepted}
-use Rattle.sheet.specs.Reading.{Whole, bad_row, first_in, or_else, found, reading, reading_of}
+use Rattle.std.specs.Prelude.{Option, Some, None, Ok, Err}
+use Rattle.std.specs.Option.{option_or}
+use Rattle.sheet.specs.Reading.{Whole, bad_row, first_in}
 
 -- bytes whose counts are within their bounds and agree with the file's length
 whole_of : (b : List ℕ) → Bounded (trailer b) → (trailer b).back ≡ body_length (trailer b) → length b ≡ (trailer b).back + trailer_length → Whole b (trailer b)
@@ -61,30 +59,30 @@ offsets_next o w n =
 pub rows_left : (w n c : ℕ) → c < n → w * (n - c) ≡ w + w * (n - (c + 1))
 rows_left w n c h = let e : n - c ≡ suc (n - (c + 1)) = omega arith in ap (λ (x : ℕ). w * x) e ∙ mul-suc w (n - (c + 1)) ∙ omega arith
 
-module _ (f : ℕ → Bool) (at w n c : ℕ) (r : Found) (left : first_in (filter f (offsets at w (n - c))) ≡ r) (h : c < n) where
+module _ (f : ℕ → Bool) (at w n c : ℕ) (r : Option ℕ) (left : first_in (filter f (offsets at w (n - c))) ≡ r) (h : c < n) where
   one_row : first_in (filter f (at ∷ offsets (at + w) w (n - (c + 1)))) ≡ r
   one_row =
       let e : n - c ≡ suc (n - (c + 1)) = omega arith in
       ap (λ xs. first_in (filter f xs)) (sym (offsets_next at w (n - (c + 1))) ∙ ap (offsets at w) (sym e)) ∙ left
 
-  pub first_found : f at ≡ true → At at ≡ r
+  pub first_found : f at ≡ true → Some at ≡ r
   first_found e = rw e at one_row
 
   pub first_next : f at ≡ false → first_in (filter f (offsets (at + w) w (n - (c + 1)))) ≡ r
   first_next e = rw e at one_row
 
-pub first_none : (f : ℕ → Bool) (at w n c : ℕ) (r : Found) → first_in (filter f (offsets at w (n - c))) ≡ r → n ≤ c → Nothing ≡ r
+pub first_none : (f : ℕ → Bool) (at w n c : ℕ) (r : Option ℕ) → first_in (filter f (offsets at w (n - c))) ≡ r → n ≤ c → None ≡ r
 unfolding offsets up_from
 first_none f at w n c r left h = let e : n - c ≡ 0 = omega arith in rw e at left
 
-pub first_append : (xs ys : List ℕ) → first_in (xs ++ ys) ≡ or_else (first_in xs) (first_in ys)
+pub first_append : (xs ys : List ℕ) → first_in (xs ++ ys) ≡ option_or (first_in xs) (first_in ys)
 first_append [] ys = refl
 first_append (x ∷ xs) ys = refl
 
 -- the first bad row of the body is that of the first part that has one
 pub first_rows : (b : List ℕ) (t : Trailer) →
     first_in (bad_rows b t)
-    ≡ or_else (or_else (or_else
+    ≡ option_or (option_or (option_or
     (first_in (filter (bad_row b t Needs) (offsets (body_at b t) 4 t.actions)))
     (first_in (filter (bad_row b t Rules) (offsets (body_at b t + 4 * t.actions) 10 t.rules))))
     (first_in (filter (bad_row b t Clauses) (offsets (body_at b t + 4 * t.actions + 10 * t.rules) 4 t.starts))))
@@ -117,28 +115,42 @@ module _ (b : List ℕ) (t : Trailer) where
   unfolding rule_of sheet_of rules_at
   rule_none j h = rows_none (rule_at b) _ (body_at b t + 4 * t.actions) 10 t.rules j h
 
--- ---- what read answers, test by test
-read_from : (b : List ℕ) (os : List ℕ) (p : Sheet) (t : Trailer) → reading (no_row os p) t ≡ found (first_in os) t
-read_from b [] p t = refl
-read_from b (o ∷ os) p t = refl
+-- ---- what decode says, test by test
+row_bad : (os : List ℕ) (p : Sheet) (o : ℕ) → first_in os ≡ Some o → Err (BadRow o) ≡ no_row os p
+row_bad [] p o e = cc
+row_bad (q ∷ os) p o e = cc
+
+row_good : (os : List ℕ) (p : Sheet) → first_in os ≡ None → Ok p ≡ no_row os p
+row_good [] p e = refl
+row_good (q ∷ os) p e = cc
 
 module _ (b : List ℕ) where
-  pub read_unmarked : marked b ≡ false → reading_of b ≡ Refused Unmarked
-  unfolding reading_of decode
+  pub read_unmarked : marked b ≡ false → Err Unmarked ≡ decode b
+  unfolding decode
   read_unmarked m = rw m
 
-  pub read_unbounded : marked b ≡ true → within (trailer b) ≡ false → reading_of b ≡ Refused Unbounded
-  unfolding reading_of decode
-  read_unbounded m w = rw (m, w)
+  module _ (t : Trailer) (is : t ≡ trailer b) where
+    pub whole_read : within t ≡ true → agrees b t ≡ true → Whole b t
+    whole_read w a = subst (Whole b) (sym is) (whole b (ap within (sym is) ∙ w) (ap (agrees b) (sym is) ∙ a))
 
-  pub read_disagrees : marked b ≡ true → within (trailer b) ≡ true → agrees b (trailer b) ≡ false → reading_of b ≡ Refused Disagrees
-  unfolding reading_of decode
-  read_disagrees m w a = rw (m, w, a)
+    module _ (m : marked b ≡ true) where
+      pub read_unbounded : within t ≡ false → Err Unbounded ≡ decode b
+      unfolding decode
+      read_unbounded w = rw (← is, m, w)
 
-  pub read_found : marked b ≡ true → within (trailer b) ≡ true → agrees b (trailer b) ≡ true
-      → reading_of b ≡ found (first_in (bad_rows b (trailer b))) (trailer b)
-  unfolding reading_of decode
-  read_found m w a = rw (m, w, a) (read_from b (bad_rows b (trailer b)) (sheet_of b (trailer b)) (trailer b))
+      module _ (w : within t ≡ true) where
+        pub read_disagrees : agrees b t ≡ false → Err Disagrees ≡ decode b
+        unfolding decode
+        read_disagrees a = rw (← is, m, w, a)
+
+        module _ (a : agrees b t ≡ true) where
+          pub read_bad : (o : ℕ) → first_in (bad_rows b t) ≡ Some o → Err (BadRow o) ≡ decode b
+          unfolding decode
+          read_bad o e = rw (← is, m, w, a) (row_bad (bad_rows b t) (sheet_of b t) o e)
+
+          pub read_good : first_in (bad_rows b t) ≡ None → Ok (sheet_of b t) ≡ decode b
+          unfolding decode
+          read_good e = rw (← is, m, w, a) (row_good (bad_rows b t) (sheet_of b t) e)
 
   pub marked_long : marked b ≡ true → 16 ≤ length b
   unfolding marked
@@ -147,29 +159,7 @@ module _ (b : List ℕ) where
       let h = and_e (leb trailer_length (length b)) (eqb (get_or b (length b - 2) 0) 0x52) g.0 in
       leb-true 16 (length b) h.0
 
--- ---- what read's answer says of decode
-pub record Taken (b : List ℕ) (t : Trailer) : Type 0 where
-  pub sheet : decode b ≡ decoded (sheet_of b t)
-  pub holds : Whole b t
+-- what the code's proofs use
+pub ruleset rows_in_order = (rows_left, first_found, first_next, first_none)
 
-pub taken : (b : List ℕ) (t : Trailer) → reading_of b ≡ Accepted t → Taken b t
-unfolding reading_of
-taken b t e = by_decoded (decode b) refl
-  where
-    by_decoded : (d : Decoded) → decode b ≡ d → Taken b t
-    by_decoded (refused f) q = let e' = rw q at e in let z : ◌≡◌ {A = ℕ} 0 1 = cc in absurd (omega arith)
-    by_decoded (decoded p) q =
-        let e' : trailer b ≡ t = cc in
-        let a = accepted b p q in
-        subst (λ x. Taken b x) e' (record {
-          sheet = q ∙ ap decoded (sym a.sheet_is);
-          holds = whole_of b a.bounds a.back_is a.length_is;
-        })
-
-pub not_taken : (b : List ℕ) (f : Fault) → reading_of b ≡ Refused f → decode b ≡ refused f
-unfolding reading_of
-not_taken b f e = by_decoded (decode b) refl
-  where
-    by_decoded : (d : Decoded) → decode b ≡ d → decode b ≡ refused f
-    by_decoded (refused g) q = let e' = rw q at e in q ∙ (cc)
-    by_decoded (decoded p) q = let e' = rw q at e in let z : ◌≡◌ {A = ℕ} 0 1 = cc in absurd (omega arith)
+pub ruleset reading = (within_bounded, marked_long, whole_read, read_unmarked, read_unbounded, read_disagrees, read_bad, read_good)

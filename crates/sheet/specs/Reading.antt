@@ -1,17 +1,12 @@
 -- How the code holds what decode says: the trailer of an accepted sheet beside its bytes, rows as arrays of numbers.
 -- Assumes nothing.
-use Rattle.std.specs.Prelude.{◌≡◌, Bool, not, List, [], ◌∷◌, map, ℕ, ◌+◌, ◌*◌, ◌≤◌, length}
+use Rattle.std.specs.Prelude.{◌≡◌, Bool, not, List, [], ◌∷◌, map, ℕ, ◌+◌, ◌*◌, ◌≤◌, length, Option, Some, None}
 use Rattle.paper.specs.declared.Trailer.{Trailer}
-use Rattle.paper.specs.declared.Fault.{Fault}
 use Rattle.paper.specs.Lists.{up_from}
-use Rattle.paper.specs.Sheet.{Need, Rule, Sheet, Decoded, refused, decoded, trailer, body_at, Bounded, good_need, good_rule, good_masks, need_at, rule_at, masks_at, decode}
+use Rattle.paper.specs.Sheet.{Need, Rule, Sheet, trailer, body_at, Bounded, good_need, good_rule, good_masks, need_at, rule_at, masks_at}
 use Rattle.paper.specs.Step.{need_of, rule_of}
 use Rattle.sheet.specs.declared.Part.{Part}
 use Rattle.sheet.specs.declared.Part.TheVariants.{Needs, Rules, Clauses}
-use Rattle.sheet.specs.declared.Found.{Found}
-use Rattle.sheet.specs.declared.Found.TheVariants.{At, Nothing}
-use Rattle.sheet.specs.declared.Reading.{Reading}
-use Rattle.sheet.specs.declared.Reading.TheVariants.{Refused, Accepted}
 
 -- bytes with their own trailer: its counts are within their bounds, and the parts of the body fill the file up to it
 pub record Whole (b : List ℕ) (t : Trailer) : Type 0 where
@@ -34,25 +29,9 @@ bad_row b t Rules o = not (good_rule t.facts t.actions (rule_at b o))
 bad_row b t Clauses o = not (good_masks t.facts (masks_at b o))
 
 -- the first of some offsets
-abbrev pub first_in : List ℕ → Found
-first_in [] = Nothing
-first_in (o ∷ os) = At o
-
-abbrev pub or_else : Found → Found → Found
-or_else (At o) g = At o
-or_else Nothing g = g
-
-abbrev pub found : Found → Trailer → Reading
-found (At o) t = Refused (Fault.BadRow o)
-found Nothing t = Accepted t
-
--- what decode says, with the trailer in the place of the sheet
-abbrev pub reading : Decoded → Trailer → Reading
-reading (refused f) t = Refused f
-reading (decoded p) t = Accepted t
-
-unfoldable pub reading_of : List ℕ → Reading
-reading_of b = reading (decode b) (trailer b)
+abbrev pub first_in : List ℕ → Option ℕ
+first_in [] = None
+first_in (o ∷ os) = Some o
 
 -- a need and a rule as arrays of numbers, and all that a sheet can have
 abbrev pub pair : Need → List ℕ

@@ -1,10 +1,9 @@
 // A sheet's bytes: refused by 1, 2, 3 or 4 exactly as document 01 says, or accepted, with its trailer and its rows decoded.
-#![tactic(auto)]
+#![tactic(auto, unfolding(paper::specs::Sheet::marked, paper::specs::Sheet::trailer, paper::specs::Sheet::within, paper::specs::Sheet::body_length, paper::specs::Sheet::fits, paper::specs::Sheet::good_need, paper::specs::Sheet::need_at, paper::specs::Sheet::good_rule, paper::specs::Sheet::rule_at, paper::specs::Sheet::good_masks, paper::specs::Sheet::masks_at, paper::specs::Sheet::body_at, paper::specs::Sheet::sheet_of))]
 
 ghost use Rattle.std.specs.Prelude.{◌≡◌, not, ◌+◌, ◌*◌, ◌≤◌, ◌<◌, length};
 ghost use Rattle.paper.specs.Lists.{filter};
 ghost use Rattle.paper.specs.Sheet as paper;
-ghost use Rattle.paper.specs.Step.{need_of, rule_of};
 ghost use Rattle.sheet.specs.Reading as spec;
 
 use paper::{Fault, Trailer};
@@ -17,18 +16,19 @@ pub enum Part {
     Clauses,
 }
 
-// An offset, where there is one.
+// Bytes whose trailer's counts are within their bounds and agree with the length: it is known where each part lies.
 #[derive(Clone, Copy)]
-pub enum Found {
-    At(u32),
-    Nothing,
+pub struct Parts<'a> {
+    pub bytes: &'a [u8],
+    pub trailer: Trailer,
+    pub ghost whole: { spec.Whole bytes.now trailer },
 }
 
-// What reading a sheet comes to.
+// An accepted sheet: no row of its parts is refused.
 #[derive(Clone, Copy)]
-pub enum Reading {
-    Refused(Fault),
-    Accepted(Trailer),
+pub struct Sheet<'a> {
+    pub parts: Parts<'a>,
+    pub ghost fine: { paper.Fine (paper.sheet_of parts.bytes.now parts.trailer) },
 }
 
 // The 16-bit number at a place, as a count.
@@ -86,42 +86,13 @@ fn body_length(t: Trailer) -> usize
 }
 
 // 3 does not apply: back is the body's length, and the file has no other byte.
+#[tactic(auto, using(crate::proofs::Laws::agrees_is))]
 fn agrees(b: &[u8], t: Trailer) -> bool
     requires { paper.Bounded t }
     ensures { result ≡ paper.agrees b.now t }
 {
     let body = body_length(t);
     (t.back == body) & (b.len() == body + 16)
-}
-
-// Where the body begins.
-fn body_at(b: &[u8], t: Trailer) -> usize
-    requires { spec.Whole b.now t }
-    ensures { result ≡ paper.body_at b.now t }
-{
-    b.len() - 16 - t.back
-}
-
-// The parts of the body follow each other without gaps.
-fn rules_at(b: &[u8], t: Trailer) -> usize
-    requires { spec.Whole b.now t }
-    ensures { result ≡ paper.body_at b.now t + 4 * t.actions }
-{
-    body_at(b, t) + 4 * t.actions
-}
-
-pub fn starts_at(b: &[u8], t: Trailer) -> usize
-    requires { spec.Whole b.now t }
-    ensures { result ≡ paper.body_at b.now t + 4 * t.actions + 10 * t.rules }
-{
-    rules_at(b, t) + 10 * t.rules
-}
-
-pub fn goals_at(b: &[u8], t: Trailer) -> usize
-    requires { spec.Whole b.now t }
-    ensures { result ≡ paper.body_at b.now t + 4 * t.actions + 10 * t.rules + 4 * t.starts }
-{
-    starts_at(b, t) + 4 * t.starts
 }
 
 // No bit of the mask is at f or above.
@@ -133,6 +104,7 @@ pub fn fits(f: usize, m: u32) -> bool
 }
 
 // Two masks of f facts that do not overlap.
+#[tactic(auto, unfolding(paper::specs::Sheet::good_pair, paper::specs::Counting::overlap), using(bits::proofs::Machine::apart))]
 fn good_pair(f: usize, one: u16, nil: u16) -> bool
     requires { f ≤ 12 }
     ensures { result ≡ paper.good_pair f one nil }
@@ -188,7 +160,8 @@ fn bad_row(b: &[u8], t: Trailer, part: Part, at: usize) -> bool
 }
 
 // The first of n rows from an offset on that is refused.
-fn first_bad(b: &[u8], t: Trailer, part: Part, from: usize, n: usize) -> Found
+#[tactic(auto, using(crate::proofs::Laws::rows_in_order))]
+fn first_bad(b: &[u8], t: Trailer, part: Part, from: usize, n: usize) -> Option<u32>
     requires { (t.facts ≤ 12) × (from + spec.width part * n ≤ length b.now) × (length b.now ≤ 65536) }
     ensures { result ≡ spec.first_in (filter (spec.bad_row b.now t part) (paper.offsets from (spec.width part) n)) }
 {
@@ -196,60 +169,11 @@ fn first_bad(b: &[u8], t: Trailer, part: Part, from: usize, n: usize) -> Found
     let mut at = from;
     for _ in 0..n {
         if bad_row(b, t, part, at) {
-            return Found::At(at as u32);
+            return Some(at as u32);
         }
         at = at + step;
     }
-    Found::Nothing
-}
-
-// What was found first, else what was found second.
-fn or_else(f: Found, g: Found) -> Found
-    ensures { result ≡ spec.or_else f g }
-{
-    match f {
-        Found::At(o) => Found::At(o),
-        Found::Nothing => g,
-    }
-}
-
-// The first refused row of the body, in the order of the file.
-fn first_bad_row(b: &[u8], t: Trailer) -> Found
-    requires { spec.Whole b.now t }
-    ensures { result ≡ spec.first_in (paper.bad_rows b.now t) }
-{
-    let needs = first_bad(b, t, Part::Needs, body_at(b, t), t.actions);
-    let rules = first_bad(b, t, Part::Rules, rules_at(b, t), t.rules);
-    let starts = first_bad(b, t, Part::Clauses, starts_at(b, t), t.starts);
-    let goals = first_bad(b, t, Part::Clauses, goals_at(b, t), t.goals);
-    or_else(or_else(or_else(needs, rules), starts), goals)
-}
-
-fn read_rows(b: &[u8], t: Trailer) -> Reading
-    requires { spec.Whole b.now t }
-    ensures { result ≡ spec.found (spec.first_in (paper.bad_rows b.now t)) t }
-{
-    match first_bad_row(b, t) {
-        Found::At(o) => Reading::Refused(Fault::BadRow(o)),
-        Found::Nothing => Reading::Accepted(t),
-    }
-}
-
-// The first refusal that applies, or the trailer.
-pub fn read(b: &[u8]) -> Reading
-    ensures { result ≡ spec.reading_of b.now }
-{
-    if !marked(b) {
-        return Reading::Refused(Fault::Unmarked);
-    }
-    let t = read_trailer(b);
-    if !within(t) {
-        return Reading::Refused(Fault::Unbounded);
-    }
-    if !agrees(b, t) {
-        return Reading::Refused(Fault::Disagrees);
-    }
-    read_rows(b, t)
+    None
 }
 
 fn need_at(b: &[u8], at: usize) -> [u16; 2]
@@ -257,29 +181,6 @@ fn need_at(b: &[u8], at: usize) -> [u16; 2]
     ensures { result ≡ spec.pair (paper.need_at b.now at) }
 {
     [bits::word(b, at), bits::word(b, at + 2)]
-}
-
-// Zeros where there is no such action.
-fn need(b: &[u8], t: Trailer, a: usize) -> [u16; 2]
-    requires { spec.Whole b.now t }
-    ensures { result ≡ spec.pair (need_of (paper.sheet_of b.now t) a) }
-{
-    if a < t.actions {
-        return need_at(b, body_at(b, t) + 4 * a);
-    }
-    [0u16; 2]
-}
-
-// The needs of the actions: need1, need0.
-pub fn needs(b: &[u8], t: Trailer) -> [[u16; 2]; 12]
-    requires { spec.Whole b.now t }
-    ensures { result ≡ spec.pairs_of (paper.sheet_of b.now t) }
-{
-    let mut out = [[0u16; 2]; 12];
-    for a in 0..12 {
-        out[a] = need(b, t, a);
-    }
-    out
 }
 
 fn rule_at(b: &[u8], at: usize) -> [u16; 5]
@@ -295,25 +196,131 @@ fn rule_at(b: &[u8], at: usize) -> [u16; 5]
     ]
 }
 
-// Zeros where there is no such rule.
-fn rule(b: &[u8], t: Trailer, j: usize) -> [u16; 5]
-    requires { spec.Whole b.now t }
-    ensures { result ≡ spec.fives (rule_of (paper.sheet_of b.now t) j) }
-{
-    if j < t.rules {
-        return rule_at(b, rules_at(b, t) + 10 * j);
+impl<'a> Parts<'a> {
+    // Where the body begins.
+    fn body_at(self) -> usize
+        ensures { result ≡ paper.body_at self.entry.bytes.now self.entry.trailer }
+    {
+        self.bytes.len() - 16 - self.trailer.back
     }
-    [0u16; 5]
+
+    // The parts of the body follow each other without gaps.
+    fn rules_at(self) -> usize
+        ensures { result ≡ paper.body_at self.entry.bytes.now self.entry.trailer + 4 * self.entry.trailer.actions }
+    {
+        self.body_at() + 4 * self.trailer.actions
+    }
+
+    pub fn starts_at(self) -> usize
+        ensures { result ≡ paper.body_at self.entry.bytes.now self.entry.trailer + 4 * self.entry.trailer.actions + 10 * self.entry.trailer.rules }
+    {
+        self.rules_at() + 10 * self.trailer.rules
+    }
+
+    pub fn goals_at(self) -> usize
+        ensures { result ≡ paper.body_at self.entry.bytes.now self.entry.trailer + 4 * self.entry.trailer.actions + 10 * self.entry.trailer.rules + 4 * self.entry.trailer.starts }
+    {
+        self.starts_at() + 4 * self.trailer.starts
+    }
+
+    // The first refused row of the body, in the order of the file.
+    #[tactic(auto, using(crate::proofs::Laws::first_rows))]
+    fn first_bad_row(self) -> Option<u32>
+        ensures { result ≡ spec.first_in (paper.bad_rows self.entry.bytes.now self.entry.trailer) }
+    {
+        let b = self.bytes;
+        let t = self.trailer;
+        let needs = first_bad(b, t, Part::Needs, self.body_at(), t.actions);
+        let rules = first_bad(b, t, Part::Rules, self.rules_at(), t.rules);
+        let starts = first_bad(b, t, Part::Clauses, self.starts_at(), t.starts);
+        let goals = first_bad(b, t, Part::Clauses, self.goals_at(), t.goals);
+        needs.or(rules).or(starts).or(goals)
+    }
 }
 
-// The decoded rules: action, cond1, cond0, set1, set0.
-pub fn rules(b: &[u8], t: Trailer) -> [[u16; 5]; 24]
-    requires { spec.Whole b.now t }
-    ensures { result ≡ spec.fives_of (paper.sheet_of b.now t) }
-{
-    let mut out = [[0u16; 5]; 24];
-    for j in 0..24 {
-        out[j] = rule(b, t, j);
+impl<'a> Sheet<'a> {
+    ghost use Rattle.std.specs.Prelude.{IfOk};
+    ghost use Rattle.paper.specs.Step.{need_of, rule_of};
+    ghost use Rattle.sheet.specs.Contents.{contents, read_as};
+
+    // The first refusal that applies, or the sheet.
+    #[tactic(auto, using(crate::proofs::Laws::reading))]
+    pub fn read(b: &'a [u8]) -> Result<Sheet<'a>, Fault>
+        ensures answer { read_as result ≡ paper.decode b.now }
+        ensures bytes { IfOk result (λ s. s.parts.bytes.now ≡ b.now) }
+    {
+        if !marked(b) {
+            return Err(Fault::Unmarked);
+        }
+        let trailer = read_trailer(b);
+        if !within(trailer) {
+            return Err(Fault::Unbounded);
+        }
+        if !agrees(b, trailer) {
+            return Err(Fault::Disagrees);
+        }
+        let parts = Parts { bytes: b, trailer };
+        match parts.first_bad_row() {
+            Some(at) => Err(Fault::BadRow(at)),
+            None => Ok(Sheet { parts }),
+        }
     }
-    out
+
+    // How many facts there are.
+    pub fn facts(self) -> usize
+        ensures { result ≡ (contents self.entry).F }
+    {
+        self.parts.trailer.facts
+    }
+
+    // How many actions there are.
+    pub fn actions(self) -> usize
+        ensures { result ≡ (contents self.entry).A }
+    {
+        self.parts.trailer.actions
+    }
+
+    // Zeros where there is no such action.
+    #[tactic(auto, using(crate::proofs::Laws::need_is, crate::proofs::Laws::need_none))]
+    fn need(self, a: usize) -> [u16; 2]
+        ensures { result ≡ spec.pair (need_of (contents self.entry) a) }
+    {
+        if a < self.parts.trailer.actions {
+            return need_at(self.parts.bytes, self.parts.body_at() + 4 * a);
+        }
+        [0u16; 2]
+    }
+
+    // The needs of the actions: need1, need0.
+    pub fn needs(self) -> [[u16; 2]; 12]
+        ensures { result ≡ spec.pairs_of (contents self.entry) }
+    {
+        let mut out = [[0u16; 2]; 12];
+        for a in 0..12 {
+            out[a] = self.need(a);
+        }
+        out
+    }
+
+    // Zeros where there is no such rule.
+    #[tactic(auto, using(crate::proofs::Laws::rule_is, crate::proofs::Laws::rule_none))]
+    fn rule(self, j: usize) -> [u16; 5]
+        ensures { result ≡ spec.fives (rule_of (contents self.entry) j) }
+    {
+        if j < self.parts.trailer.rules {
+            return rule_at(self.parts.bytes, self.parts.rules_at() + 10 * j);
+        }
+        [0u16; 5]
+    }
+
+    // The decoded rules: action, cond1, cond0, set1, set0.
+    pub fn rules(self) -> [[u16; 5]; 24]
+        ensures { result ≡ spec.fives_of (contents self.entry) }
+    {
+        let mut out = [[0u16; 5]; 24];
+        for j in 0..24 {
+            out[j] = self.rule(j);
+        }
+        out
+    }
 }

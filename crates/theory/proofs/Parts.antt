@@ -22,8 +22,6 @@ use Rattle.paper.proofs.Lists.{filter_below, all_get_d}
 use Rattle.paper.proofs.Size.{theory_size}
 use Rattle.bits.proofs.Machine.{apart}
 use Rattle.bits.proofs.Upward.{map_more}
-use Rattle.variables.specs.Numbering.{Counts}
-use Rattle.variables.proofs.Laws.{sheet_counts}
 use Rattle.sheet.specs.Reading.{fives, pairs_of, fives_of}
 use Rattle.sheet.specs.Writes.{Writes}
 use Rattle.sheet.proofs.Writes.{need_at_lem, rule_at_lem}
@@ -281,12 +279,12 @@ module _ (b : List ℕ) (t : Trailer) (n o q : ℕ) (needs rules : List (List �
   goals_are = ap (λ (k : ℕ). map (masks_at b) (offsets k 4 t.goals)) eq
 
   pub theory_stored : {L M N O E G H K : List ℕ} {a c r : Filled} → 18720 ≤ length O → 6896 ≤ length K
-      → ((p : Sheet) (i : ℕ) → Counts p t → Adds (at_moment p i (record { 0 = 0 }) (map (masks_at b) (offsets o 4 t.starts))) L M E G (record { literals = 0; clauses = 0 }) a)
-      → ((p : Sheet) (i : ℕ) → Counts p t → Adds (at_moment p i (record { 0 = n }) (map (masks_at b) (offsets q 4 t.goals))) M N G H a c)
-      → ((p : Sheet) → Counts p t → Writes p needs rules t.rules → Adds (steps_of p n) N O H K c r)
+      → ((i : ℕ) → Adds (at_moment (sheet_of b t) i (record { 0 = 0 }) (map (masks_at b) (offsets o 4 t.starts))) L M E G (record { literals = 0; clauses = 0 }) a)
+      → ((i : ℕ) → Adds (at_moment (sheet_of b t) i (record { 0 = n }) (map (masks_at b) (offsets q 4 t.goals))) M N G H a c)
+      → (Writes (sheet_of b t) needs rules t.rules → Adds (steps_of (sheet_of b t) n) N O H K c r)
       → Left L O E K r (theory (sheet_of b t) n)
   theory_stored x y f g h =
       adds_theory (sheet_of b t) n fine l x y
-      (adds_as (ap (at_moment (sheet_of b t) n (record { 0 = 0 })) starts_are) (f (sheet_of b t) n (sheet_counts b t)))
-      (adds_as (ap (at_moment (sheet_of b t) n (record { 0 = n })) goals_are) (g (sheet_of b t) n (sheet_counts b t)))
-      (h (sheet_of b t) (sheet_counts b t) sheet_writes)
+      (adds_as (ap (at_moment (sheet_of b t) n (record { 0 = 0 })) starts_are) (f n))
+      (adds_as (ap (at_moment (sheet_of b t) n (record { 0 = n })) goals_are) (g n))
+      (h sheet_writes)

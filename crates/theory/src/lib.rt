@@ -6,13 +6,13 @@ ghost use Rattle.paper.specs.Lists.{only};
 ghost use Rattle.paper.specs.Counting.{bit, before, after};
 ghost use Rattle.paper.specs.Sheet as paper;
 ghost use Rattle.paper.specs.Clauses as clauses;
-ghost use Rattle.variables.specs.Numbering.{Counts};
-ghost use Rattle.sheet.specs.Reading.{Whole};
+ghost use Rattle.sheet.specs.Contents.{contents};
 ghost use Rattle.sheet.specs.Writes.{Writes};
 ghost use Rattle.theory.specs.Flat.{code_of, Stored};
 ghost use Rattle.theory.specs.Making as spec;
 
-use paper::{Moment, Step, Trailer};
+use paper::{Moment, Step};
+use sheet::Sheet;
 
 // How much of the two arrays is filled.
 #[derive(Clone, Copy)]
@@ -99,17 +99,17 @@ fn pair(
 fn push_fact(
     literals: &mut [u16],
     m: Filled,
-    t: Trailer,
+    sheet: Sheet,
     moment: Moment,
     one: u16,
     nil: u16,
     sign: bool,
     k: usize,
 ) -> Filled
-    requires { paper.Bounded t × (moment.0 ≤ 8) × (k < 12) }
-    ensures { (p : paper.Sheet) (n : ℕ) → Counts p t → spec.Pushes (spec.fact_as p n sign moment one nil k) literals.old literals.new m result }
+    requires { (moment.0 ≤ 8) × (k < 12) }
+    ensures { (n : ℕ) → spec.Pushes (spec.fact_as (contents sheet.entry) n sign moment one nil k) literals.old literals.new m result }
 {
-    let x = variables::fact(t, moment, k);
+    let x = variables::fact(sheet.parts.trailer, moment, k);
     let first = push_if(literals, m, bits::bit(one, k), x, sign);
     push_if(literals, first, bits::bit(nil, k), x, !sign)
 }
@@ -118,19 +118,19 @@ fn push_fact(
 fn push_facts(
     literals: &mut [u16],
     m: Filled,
-    t: Trailer,
+    sheet: Sheet,
     moment: Moment,
     one: u16,
     nil: u16,
     sign: bool,
 ) -> Filled
-    requires { paper.Bounded t × (moment.0 ≤ 8) }
-    ensures { (p : paper.Sheet) (n : ℕ) → Counts p t → spec.Pushes (spec.literals_as p n sign moment one nil) literals.old literals.new m result }
+    requires { (moment.0 ≤ 8) }
+    ensures { (n : ℕ) → spec.Pushes (spec.literals_as (contents sheet.entry) n sign moment one nil) literals.old literals.new m result }
 {
-    let facts = t.facts;
+    let facts = sheet.parts.trailer.facts;
     let mut so = m;
     for k in 0..facts {
-        so = push_fact(literals, so, t, moment, one, nil, sign, k);
+        so = push_fact(literals, so, sheet, moment, one, nil, sign, k);
     }
     so
 }
@@ -179,7 +179,7 @@ fn pair_facts_at(
     literals: &mut [u16],
     ends: &mut [u16],
     m: Filled,
-    t: Trailer,
+    sheet: Sheet,
     moment: Moment,
     one: u16,
     nil: u16,
@@ -187,10 +187,10 @@ fn pair_facts_at(
     ahead: bool,
     k: usize,
 ) -> Filled
-    requires { paper.Bounded t × (moment.0 ≤ 8) × (k < 12) × (x ≤ 432) }
-    ensures { (p : paper.Sheet) (n : ℕ) → Counts p t → spec.Adds (map (spec.besides ahead x) (spec.fact_as p n true moment one nil k)) literals.old literals.new ends.old ends.new m result }
+    requires { (moment.0 ≤ 8) × (k < 12) × (x ≤ 432) }
+    ensures { (n : ℕ) → spec.Adds (map (spec.besides ahead x) (spec.fact_as (contents sheet.entry) n true moment one nil k)) literals.old literals.new ends.old ends.new m result }
 {
-    let y = variables::fact(t, moment, k);
+    let y = variables::fact(sheet.parts.trailer, moment, k);
     let first = pair_fact_if(literals, ends, m, bits::bit(one, k), y, true, x, ahead);
     pair_fact_if(literals, ends, first, bits::bit(nil, k), y, false, x, ahead)
 }
@@ -200,20 +200,20 @@ fn pair_facts(
     literals: &mut [u16],
     ends: &mut [u16],
     m: Filled,
-    t: Trailer,
+    sheet: Sheet,
     moment: Moment,
     one: u16,
     nil: u16,
     x: u16,
     ahead: bool,
 ) -> Filled
-    requires { paper.Bounded t × (moment.0 ≤ 8) × (x ≤ 432) }
-    ensures { (p : paper.Sheet) (n : ℕ) → Counts p t → spec.Adds (map (spec.besides ahead x) (clauses.literals p n moment one nil)) literals.old literals.new ends.old ends.new m result }
+    requires { (moment.0 ≤ 8) × (x ≤ 432) }
+    ensures { (n : ℕ) → spec.Adds (map (spec.besides ahead x) (clauses.literals (contents sheet.entry) n moment one nil)) literals.old literals.new ends.old ends.new m result }
 {
-    let facts = t.facts;
+    let facts = sheet.parts.trailer.facts;
     let mut so = m;
     for k in 0..facts {
-        so = pair_facts_at(literals, ends, so, t, moment, one, nil, x, ahead, k);
+        so = pair_facts_at(literals, ends, so, sheet, moment, one, nil, x, ahead, k);
     }
     so
 }
@@ -223,17 +223,17 @@ fn need_clauses(
     literals: &mut [u16],
     ends: &mut [u16],
     m: Filled,
-    t: Trailer,
+    sheet: Sheet,
     step: Step,
     a: usize,
     one: u16,
     nil: u16,
 ) -> Filled
-    requires { paper.Bounded t × (step.0 < 8) × (a < 12) }
-    ensures { (p : paper.Sheet) (n : ℕ) → Counts p t → spec.Adds (map (spec.besides false (clauses.action p n step a)) (clauses.literals p n (before step) one nil)) literals.old literals.new ends.old ends.new m result }
+    requires { (step.0 < 8) × (a < 12) }
+    ensures { (n : ℕ) → spec.Adds (map (spec.besides false (clauses.action (contents sheet.entry) n step a)) (clauses.literals (contents sheet.entry) n (before step) one nil)) literals.old literals.new ends.old ends.new m result }
 {
-    let x = variables::action(t, step, a);
-    pair_facts(literals, ends, m, t, step.before(), one, nil, x, false)
+    let x = variables::action(sheet.parts.trailer, step, a);
+    pair_facts(literals, ends, m, sheet, step.before(), one, nil, x, false)
 }
 
 // What every action needs.
@@ -241,18 +241,18 @@ fn needs_of_step(
     literals: &mut [u16],
     ends: &mut [u16],
     m: Filled,
-    t: Trailer,
+    sheet: Sheet,
     needs: [[u16; 2]; 12],
     step: Step,
 ) -> Filled
-    requires { paper.Bounded t × (step.0 < 8) }
-    ensures { (p : paper.Sheet) (n : ℕ) (rules : List (List ℕ)) → Counts p t → Writes p needs rules t.rules → spec.Adds (clauses.need_clauses p n step) literals.old literals.new ends.old ends.new m result }
+    requires { (step.0 < 8) }
+    ensures { (n : ℕ) (rules : List (List ℕ)) → Writes (contents sheet.entry) needs rules sheet.entry.parts.trailer.rules → spec.Adds (clauses.need_clauses (contents sheet.entry) n step) literals.old literals.new ends.old ends.new m result }
 {
-    let actions = t.actions;
+    let actions = sheet.parts.trailer.actions;
     let mut so = m;
     for a in 0..actions {
         let need = needs[a];
-        so = need_clauses(literals, ends, so, t, step, a, need[0], need[1]);
+        so = need_clauses(literals, ends, so, sheet, step, a, need[0], need[1]);
     }
     so
 }
@@ -262,17 +262,17 @@ fn z_follows(
     literals: &mut [u16],
     ends: &mut [u16],
     m: Filled,
-    t: Trailer,
+    sheet: Sheet,
     moment: Moment,
     one: u16,
     nil: u16,
     a: u16,
     z: u16,
 ) -> Filled
-    requires { paper.Bounded t × (moment.0 ≤ 8) × (a ≤ 432) × (z ≤ 432) }
-    ensures { (p : paper.Sheet) (n : ℕ) → Counts p t → spec.Adds ((map clauses.neg (clauses.literals p n moment one nil) ++ (clauses.no· a ∷ (clauses.yes· z ∷ []))) ∷ []) literals.old literals.new ends.old ends.new m result }
+    requires { (moment.0 ≤ 8) × (a ≤ 432) × (z ≤ 432) }
+    ensures { (n : ℕ) → spec.Adds ((map clauses.neg (clauses.literals (contents sheet.entry) n moment one nil) ++ (clauses.no· a ∷ (clauses.yes· z ∷ []))) ∷ []) literals.old literals.new ends.old ends.new m result }
 {
-    let conditions = push_facts(literals, m, t, moment, one, nil, false);
+    let conditions = push_facts(literals, m, sheet, moment, one, nil, false);
     let action = push(literals, conditions, a, false);
     let all = push(literals, action, z, true);
     end(ends, all)
@@ -283,22 +283,32 @@ fn z_clauses(
     literals: &mut [u16],
     ends: &mut [u16],
     m: Filled,
-    t: Trailer,
+    sheet: Sheet,
     step: Step,
     j: usize,
     rule: [u16; 5],
 ) -> Filled
-    requires { paper.Bounded t × (step.0 < 8) × (j < 24) × (1 ≤ get_or rule 0 0) × (get_or rule 0 0 ≤ 12) }
-    ensures { (p : paper.Sheet) (n : ℕ) → Counts p t → spec.Adds (spec.z_of p n step j (get_or rule 0 0) (get_or rule 1 0) (get_or rule 2 0)) literals.old literals.new ends.old ends.new m result }
+    requires { (step.0 < 8) × (j < 24) × (1 ≤ get_or rule 0 0) × (get_or rule 0 0 ≤ 12) }
+    ensures { (n : ℕ) → spec.Adds (spec.z_of (contents sheet.entry) n step j (get_or rule 0 0) (get_or rule 1 0) (get_or rule 2 0)) literals.old literals.new ends.old ends.new m result }
 {
     let number = rule[0] as usize;
-    let a = variables::action(t, step, number - 1);
-    let z = variables::z(t, step, j);
+    let a = variables::action(sheet.parts.trailer, step, number - 1);
+    let z = variables::z(sheet.parts.trailer, step, j);
     let one = rule[1];
     let nil = rule[2];
     let first = pair(literals, ends, m, a, true, z, false);
-    let second = pair_facts(literals, ends, first, t, step.before(), one, nil, z, false);
-    z_follows(literals, ends, second, t, step.before(), one, nil, a, z)
+    let second = pair_facts(
+        literals,
+        ends,
+        first,
+        sheet,
+        step.before(),
+        one,
+        nil,
+        z,
+        false,
+    );
+    z_follows(literals, ends, second, sheet, step.before(), one, nil, a, z)
 }
 
 // The clauses of every rule's z.
@@ -306,17 +316,17 @@ fn z_of_step(
     literals: &mut [u16],
     ends: &mut [u16],
     m: Filled,
-    t: Trailer,
+    sheet: Sheet,
     rules: [[u16; 5]; 24],
     step: Step,
 ) -> Filled
-    requires { paper.Bounded t × (step.0 < 8) × spec.Actions rules t.rules }
-    ensures { (p : paper.Sheet) (n : ℕ) (needs : List (List ℕ)) → Counts p t → Writes p needs rules t.rules → spec.Adds (clauses.z_clauses p n step) literals.old literals.new ends.old ends.new m result }
+    requires { (step.0 < 8) × spec.Actions rules sheet.parts.trailer.rules }
+    ensures { (n : ℕ) (needs : List (List ℕ)) → Writes (contents sheet.entry) needs rules sheet.entry.parts.trailer.rules → spec.Adds (clauses.z_clauses (contents sheet.entry) n step) literals.old literals.new ends.old ends.new m result }
 {
-    let count = t.rules;
+    let count = sheet.parts.trailer.rules;
     let mut so = m;
     for j in 0..count {
-        so = z_clauses(literals, ends, so, t, step, j, rules[j]);
+        so = z_clauses(literals, ends, so, sheet, step, j, rules[j]);
     }
     so
 }
@@ -326,17 +336,17 @@ fn effect_clauses(
     literals: &mut [u16],
     ends: &mut [u16],
     m: Filled,
-    t: Trailer,
+    sheet: Sheet,
     step: Step,
     j: usize,
     one: u16,
     nil: u16,
 ) -> Filled
-    requires { paper.Bounded t × (step.0 < 8) × (j < 24) }
-    ensures { (p : paper.Sheet) (n : ℕ) → Counts p t → spec.Adds (map (spec.besides true (clauses.z p n step j)) (clauses.literals p n (after step) one nil)) literals.old literals.new ends.old ends.new m result }
+    requires { (step.0 < 8) × (j < 24) }
+    ensures { (n : ℕ) → spec.Adds (map (spec.besides true (clauses.z (contents sheet.entry) n step j)) (clauses.literals (contents sheet.entry) n (after step) one nil)) literals.old literals.new ends.old ends.new m result }
 {
-    let x = variables::z(t, step, j);
-    pair_facts(literals, ends, m, t, step.after(), one, nil, x, true)
+    let x = variables::z(sheet.parts.trailer, step, j);
+    pair_facts(literals, ends, m, sheet, step.after(), one, nil, x, true)
 }
 
 // What every rule sets.
@@ -344,18 +354,18 @@ fn effects_of_step(
     literals: &mut [u16],
     ends: &mut [u16],
     m: Filled,
-    t: Trailer,
+    sheet: Sheet,
     rules: [[u16; 5]; 24],
     step: Step,
 ) -> Filled
-    requires { paper.Bounded t × (step.0 < 8) }
-    ensures { (p : paper.Sheet) (n : ℕ) (needs : List (List ℕ)) → Counts p t → Writes p needs rules t.rules → spec.Adds (clauses.effect_clauses p n step) literals.old literals.new ends.old ends.new m result }
+    requires { (step.0 < 8) }
+    ensures { (n : ℕ) (needs : List (List ℕ)) → Writes (contents sheet.entry) needs rules sheet.entry.parts.trailer.rules → spec.Adds (clauses.effect_clauses (contents sheet.entry) n step) literals.old literals.new ends.old ends.new m result }
 {
-    let count = t.rules;
+    let count = sheet.parts.trailer.rules;
     let mut so = m;
     for j in 0..count {
         let rule = rules[j];
-        so = effect_clauses(literals, ends, so, t, step, j, rule[3], rule[4]);
+        so = effect_clauses(literals, ends, so, sheet, step, j, rule[3], rule[4]);
     }
     so
 }
@@ -372,17 +382,17 @@ fn exclusion(
     literals: &mut [u16],
     ends: &mut [u16],
     m: Filled,
-    t: Trailer,
+    sheet: Sheet,
     step: Step,
     a: usize,
     b: usize,
 ) -> Filled
-    requires { paper.Bounded t × (step.0 < 8) × (a < 12) × (b < 12) }
-    ensures { (p : paper.Sheet) (n : ℕ) → Counts p t → spec.Adds (only (ltb a b && clauses.every_pair a b) (clauses.no· (clauses.action p n step a) ∷ (clauses.no· (clauses.action p n step b) ∷ []))) literals.old literals.new ends.old ends.new m result }
+    requires { (step.0 < 8) × (a < 12) × (b < 12) }
+    ensures { (n : ℕ) → spec.Adds (only (ltb a b && clauses.every_pair a b) (clauses.no· (clauses.action (contents sheet.entry) n step a) ∷ (clauses.no· (clauses.action (contents sheet.entry) n step b) ∷ []))) literals.old literals.new ends.old ends.new m result }
 {
     if excludes(a, b) {
-        let x = variables::action(t, step, a);
-        let y = variables::action(t, step, b);
+        let x = variables::action(sheet.parts.trailer, step, a);
+        let y = variables::action(sheet.parts.trailer, step, b);
         return pair(literals, ends, m, x, false, y, false);
     }
     m
@@ -393,17 +403,17 @@ fn exclusions_of(
     literals: &mut [u16],
     ends: &mut [u16],
     m: Filled,
-    t: Trailer,
+    sheet: Sheet,
     step: Step,
     a: usize,
 ) -> Filled
-    requires { paper.Bounded t × (step.0 < 8) × (a < 12) }
-    ensures { (p : paper.Sheet) (n : ℕ) → Counts p t → spec.Adds (spec.exclusions_of p n step a) literals.old literals.new ends.old ends.new m result }
+    requires { (step.0 < 8) × (a < 12) }
+    ensures { (n : ℕ) → spec.Adds (spec.exclusions_of (contents sheet.entry) n step a) literals.old literals.new ends.old ends.new m result }
 {
-    let actions = t.actions;
+    let actions = sheet.parts.trailer.actions;
     let mut so = m;
     for b in 0..actions {
-        so = exclusion(literals, ends, so, t, step, a, b);
+        so = exclusion(literals, ends, so, sheet, step, a, b);
     }
     so
 }
@@ -413,16 +423,16 @@ fn exclusions_of_step(
     literals: &mut [u16],
     ends: &mut [u16],
     m: Filled,
-    t: Trailer,
+    sheet: Sheet,
     step: Step,
 ) -> Filled
-    requires { paper.Bounded t × (step.0 < 8) }
-    ensures { (p : paper.Sheet) (n : ℕ) → Counts p t → spec.Adds (clauses.exclusions p n clauses.every_pair step) literals.old literals.new ends.old ends.new m result }
+    requires { (step.0 < 8) }
+    ensures { (n : ℕ) → spec.Adds (clauses.exclusions (contents sheet.entry) n clauses.every_pair step) literals.old literals.new ends.old ends.new m result }
 {
-    let actions = t.actions;
+    let actions = sheet.parts.trailer.actions;
     let mut so = m;
     for a in 0..actions {
-        so = exclusions_of(literals, ends, so, t, step, a);
+        so = exclusions_of(literals, ends, so, sheet, step, a);
     }
     so
 }
@@ -431,16 +441,16 @@ fn exclusions_of_step(
 fn push_setters(
     literals: &mut [u16],
     m: Filled,
-    t: Trailer,
+    sheet: Sheet,
     rules: [[u16; 5]; 24],
     step: Step,
     i: usize,
     k: usize,
 ) -> Filled
-    requires { paper.Bounded t × (step.0 < 8) × (i < 5) × (k < 12) }
-    ensures { (p : paper.Sheet) (n : ℕ) → Counts p t → spec.Pushes (spec.setters p n step (λ j. get_or (get_or rules j []) i 0) k) literals.old literals.new m result }
+    requires { (step.0 < 8) × (i < 5) × (k < 12) }
+    ensures { (n : ℕ) → spec.Pushes (spec.setters (contents sheet.entry) n step (λ j. get_or (get_or rules j []) i 0) k) literals.old literals.new m result }
 {
-    let count = t.rules;
+    let count = sheet.parts.trailer.rules;
     let mut so = m;
     for j in 0..count {
         let rule = rules[j];
@@ -448,7 +458,7 @@ fn push_setters(
             literals,
             so,
             bits::bit(rule[i], k),
-            variables::z(t, step, j),
+            variables::z(sheet.parts.trailer, step, j),
             true,
         );
     }
@@ -460,20 +470,20 @@ fn frame(
     literals: &mut [u16],
     ends: &mut [u16],
     m: Filled,
-    t: Trailer,
+    sheet: Sheet,
     rules: [[u16; 5]; 24],
     step: Step,
     i: usize,
     sign: bool,
     k: usize,
 ) -> Filled
-    requires { paper.Bounded t × (step.0 < 8) × (i < 5) × (k < 12) }
-    ensures { (p : paper.Sheet) (n : ℕ) → Counts p t → spec.Adds (spec.frame_of p n step (λ j. get_or (get_or rules j []) i 0) sign k ∷ []) literals.old literals.new ends.old ends.new m result }
+    requires { (step.0 < 8) × (i < 5) × (k < 12) }
+    ensures { (n : ℕ) → spec.Adds (spec.frame_of (contents sheet.entry) n step (λ j. get_or (get_or rules j []) i 0) sign k ∷ []) literals.old literals.new ends.old ends.new m result }
 {
-    let x = variables::fact(t, step.before(), k);
-    let y = variables::fact(t, step.after(), k);
+    let x = variables::fact(sheet.parts.trailer, step.before(), k);
+    let y = variables::fact(sheet.parts.trailer, step.after(), k);
     let first = push(literals, m, x, sign);
-    let second = push_setters(literals, first, t, rules, step, i, k);
+    let second = push_setters(literals, first, sheet, rules, step, i, k);
     let third = push(literals, second, y, !sign);
     end(ends, third)
 }
@@ -483,16 +493,16 @@ fn frames_of(
     literals: &mut [u16],
     ends: &mut [u16],
     m: Filled,
-    t: Trailer,
+    sheet: Sheet,
     rules: [[u16; 5]; 24],
     step: Step,
     k: usize,
 ) -> Filled
-    requires { paper.Bounded t × (step.0 < 8) × (k < 12) }
-    ensures { (p : paper.Sheet) (n : ℕ) → Counts p t → spec.Adds (spec.frame_of p n step (λ j. get_or (get_or rules j []) 4 0) false k ∷ (spec.frame_of p n step (λ j. get_or (get_or rules j []) 3 0) true k ∷ [])) literals.old literals.new ends.old ends.new m result }
+    requires { (step.0 < 8) × (k < 12) }
+    ensures { (n : ℕ) → spec.Adds (spec.frame_of (contents sheet.entry) n step (λ j. get_or (get_or rules j []) 4 0) false k ∷ (spec.frame_of (contents sheet.entry) n step (λ j. get_or (get_or rules j []) 3 0) true k ∷ [])) literals.old literals.new ends.old ends.new m result }
 {
-    let first = frame(literals, ends, m, t, rules, step, 4, false, k);
-    frame(literals, ends, first, t, rules, step, 3, true, k)
+    let first = frame(literals, ends, m, sheet, rules, step, 4, false, k);
+    frame(literals, ends, first, sheet, rules, step, 3, true, k)
 }
 
 // Every fact keeps its value unless a rule sets it.
@@ -500,17 +510,17 @@ fn frames_of_step(
     literals: &mut [u16],
     ends: &mut [u16],
     m: Filled,
-    t: Trailer,
+    sheet: Sheet,
     rules: [[u16; 5]; 24],
     step: Step,
 ) -> Filled
-    requires { paper.Bounded t × (step.0 < 8) }
-    ensures { (p : paper.Sheet) (n : ℕ) (needs : List (List ℕ)) → Counts p t → Writes p needs rules t.rules → spec.Adds (clauses.frames p n step) literals.old literals.new ends.old ends.new m result }
+    requires { (step.0 < 8) }
+    ensures { (n : ℕ) (needs : List (List ℕ)) → Writes (contents sheet.entry) needs rules sheet.entry.parts.trailer.rules → spec.Adds (clauses.frames (contents sheet.entry) n step) literals.old literals.new ends.old ends.new m result }
 {
-    let facts = t.facts;
+    let facts = sheet.parts.trailer.facts;
     let mut so = m;
     for k in 0..facts {
-        so = frames_of(literals, ends, so, t, rules, step, k);
+        so = frames_of(literals, ends, so, sheet, rules, step, k);
     }
     so
 }
@@ -520,17 +530,17 @@ fn writes_of_step(
     literals: &mut [u16],
     ends: &mut [u16],
     m: Filled,
-    t: Trailer,
+    sheet: Sheet,
     needs: [[u16; 2]; 12],
     rules: [[u16; 5]; 24],
     step: Step,
 ) -> Filled
-    requires { paper.Bounded t × (step.0 < 8) × spec.Actions rules t.rules }
-    ensures { (p : paper.Sheet) (n : ℕ) → Counts p t → Writes p needs rules t.rules → spec.Adds (clauses.need_clauses p n step ++ clauses.z_clauses p n step ++ clauses.effect_clauses p n step) literals.old literals.new ends.old ends.new m result }
+    requires { (step.0 < 8) × spec.Actions rules sheet.parts.trailer.rules }
+    ensures { (n : ℕ) → Writes (contents sheet.entry) needs rules sheet.entry.parts.trailer.rules → spec.Adds (clauses.need_clauses (contents sheet.entry) n step ++ clauses.z_clauses (contents sheet.entry) n step ++ clauses.effect_clauses (contents sheet.entry) n step) literals.old literals.new ends.old ends.new m result }
 {
-    let need = needs_of_step(literals, ends, m, t, needs, step);
-    let z = z_of_step(literals, ends, need, t, rules, step);
-    effects_of_step(literals, ends, z, t, rules, step)
+    let need = needs_of_step(literals, ends, m, sheet, needs, step);
+    let z = z_of_step(literals, ends, need, sheet, rules, step);
+    effects_of_step(literals, ends, z, sheet, rules, step)
 }
 
 // Precondition, z, effect, exclusion and frame clauses of a step.
@@ -538,17 +548,17 @@ fn step_clauses(
     literals: &mut [u16],
     ends: &mut [u16],
     m: Filled,
-    t: Trailer,
+    sheet: Sheet,
     needs: [[u16; 2]; 12],
     rules: [[u16; 5]; 24],
     step: Step,
 ) -> Filled
-    requires { paper.Bounded t × (step.0 < 8) × spec.Actions rules t.rules }
-    ensures { (p : paper.Sheet) (n : ℕ) → Counts p t → Writes p needs rules t.rules → spec.Adds (clauses.step_clauses p n clauses.every_pair step) literals.old literals.new ends.old ends.new m result }
+    requires { (step.0 < 8) × spec.Actions rules sheet.parts.trailer.rules }
+    ensures { (n : ℕ) → Writes (contents sheet.entry) needs rules sheet.entry.parts.trailer.rules → spec.Adds (clauses.step_clauses (contents sheet.entry) n clauses.every_pair step) literals.old literals.new ends.old ends.new m result }
 {
-    let write = writes_of_step(literals, ends, m, t, needs, rules, step);
-    let exclusion = exclusions_of_step(literals, ends, write, t, step);
-    frames_of_step(literals, ends, exclusion, t, rules, step)
+    let write = writes_of_step(literals, ends, m, sheet, needs, rules, step);
+    let exclusion = exclusions_of_step(literals, ends, write, sheet, step);
+    frames_of_step(literals, ends, exclusion, sheet, rules, step)
 }
 
 // The clauses of steps 0 to n - 1.
@@ -556,17 +566,17 @@ fn steps(
     literals: &mut [u16],
     ends: &mut [u16],
     m: Filled,
-    t: Trailer,
+    sheet: Sheet,
     needs: [[u16; 2]; 12],
     rules: [[u16; 5]; 24],
     n: usize,
 ) -> Filled
-    requires { paper.Bounded t × (n ≤ 8) × spec.Actions rules t.rules }
-    ensures { (p : paper.Sheet) → Counts p t → Writes p needs rules t.rules → spec.Adds (spec.steps_of p n) literals.old literals.new ends.old ends.new m result }
+    requires { (n ≤ 8) × spec.Actions rules sheet.parts.trailer.rules }
+    ensures { Writes (contents sheet.entry) needs rules sheet.entry.parts.trailer.rules → spec.Adds (spec.steps_of (contents sheet.entry) n) literals.old literals.new ends.old ends.new m result }
 {
     let mut so = m;
     for i in 0..n {
-        so = step_clauses(literals, ends, so, t, needs, rules, Step(i));
+        so = step_clauses(literals, ends, so, sheet, needs, rules, Step(i));
     }
     so
 }
@@ -576,20 +586,19 @@ fn clause_at(
     literals: &mut [u16],
     ends: &mut [u16],
     m: Filled,
-    b: &[u8],
-    t: Trailer,
+    sheet: Sheet,
     moment: Moment,
     at: usize,
 ) -> Filled
-    requires { paper.Bounded t × (moment.0 ≤ 8) × (at + 4 ≤ length b.now) }
-    ensures { (p : paper.Sheet) (n : ℕ) → Counts p t → spec.Adds (clauses.at_moment p n moment (paper.masks_at b.now at ∷ [])) literals.old literals.new ends.old ends.new m result }
+    requires { (moment.0 ≤ 8) × (at + 4 ≤ length sheet.parts.bytes.now) }
+    ensures { (n : ℕ) → spec.Adds (clauses.at_moment (contents sheet.entry) n moment (paper.masks_at sheet.entry.parts.bytes.now at ∷ [])) literals.old literals.new ends.old ends.new m result }
 {
-    let pos = bits::word(b, at);
-    let neg = bits::word(b, at + 2);
+    let pos = bits::word(sheet.parts.bytes, at);
+    let neg = bits::word(sheet.parts.bytes, at + 2);
     if pos & neg != 0 {
         return m;
     }
-    let all = push_facts(literals, m, t, moment, pos, neg, true);
+    let all = push_facts(literals, m, sheet, moment, pos, neg, true);
     end(ends, all)
 }
 
@@ -598,30 +607,27 @@ fn clauses_at(
     literals: &mut [u16],
     ends: &mut [u16],
     m: Filled,
-    b: &[u8],
-    t: Trailer,
+    sheet: Sheet,
     moment: Moment,
     from: usize,
     count: usize,
 ) -> Filled
-    requires { paper.Bounded t × (moment.0 ≤ 8) × (from + 4 * count ≤ length b.now) × (length b.now ≤ 432) }
-    ensures { (p : paper.Sheet) (n : ℕ) → Counts p t → spec.Adds (clauses.at_moment p n moment (map (paper.masks_at b.now) (paper.offsets from 4 count))) literals.old literals.new ends.old ends.new m result }
+    requires { (moment.0 ≤ 8) × (from + 4 * count ≤ length sheet.parts.bytes.now) }
+    ensures { (n : ℕ) → spec.Adds (clauses.at_moment (contents sheet.entry) n moment (map (paper.masks_at sheet.entry.parts.bytes.now) (paper.offsets from 4 count))) literals.old literals.new ends.old ends.new m result }
 {
     let mut so = m;
     for i in 0..count {
-        so = clause_at(literals, ends, so, b, t, moment, from + 4 * i);
+        so = clause_at(literals, ends, so, sheet, moment, from + 4 * i);
     }
     so
 }
 
 // T(P) at horizon n: the start clauses at moment 0, the goal clauses at moment n, the clauses of each step.
-pub fn theory(b: &[u8], t: Trailer, n: usize, literals: &mut [u16], ends: &mut [u16]) -> Filled
-    requires { Whole b.now t × paper.Fine (paper.sheet_of b.now t) × (n ≤ 8) × (18720 ≤ length literals.old) × (6896 ≤ length ends.old) }
-    ensures stored { Stored literals.new ends.new result (clauses.theory (paper.sheet_of b.now t) n) [] }
+pub fn theory(sheet: Sheet, n: usize, literals: &mut [u16], ends: &mut [u16]) -> Filled
+    requires { (n ≤ 8) × (18720 ≤ length literals.old) × (6896 ≤ length ends.old) }
+    ensures stored { Stored literals.new ends.new result (clauses.theory (contents sheet.entry) n) [] }
     ensures behind { (drop result.literals literals.new ≡ drop result.literals literals.old) × (drop result.clauses ends.new ≡ drop result.clauses ends.old) }
 {
-    let needs = sheet::needs(b, t);
-    let rules = sheet::rules(b, t);
     let none = Filled {
         literals: 0,
         clauses: 0,
@@ -630,21 +636,19 @@ pub fn theory(b: &[u8], t: Trailer, n: usize, literals: &mut [u16], ends: &mut [
         literals,
         ends,
         none,
-        b,
-        t,
+        sheet,
         Moment(0),
-        sheet::starts_at(b, t),
-        t.starts,
+        sheet.parts.starts_at(),
+        sheet.parts.trailer.starts,
     );
     let goal = clauses_at(
         literals,
         ends,
         start,
-        b,
-        t,
+        sheet,
         Moment(n),
-        sheet::goals_at(b, t),
-        t.goals,
+        sheet.parts.goals_at(),
+        sheet.parts.trailer.goals,
     );
-    steps(literals, ends, goal, t, needs, rules, n)
+    steps(literals, ends, goal, sheet, sheet.needs(), sheet.rules(), n)
 }

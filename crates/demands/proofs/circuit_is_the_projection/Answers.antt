@@ -6,5 +6,5 @@ returns c = let h = c.compile_clauses in
     record {
       built = h.ensures.built;
       rows = h.ensures.rows;
-      projects = built_projects c.args.literals.now c.args.ends.now c.args.table.now _ c.args.limit h.result c.requires.0 h.ensures.built h.ensures.rows;
+      projects = built_projects c.args.clauses.literals.now c.args.clauses.ends.now c.args.table.now _ c.args.limit h.result c.args.clauses.sound h.ensures.built h.ensures.rows;
     }

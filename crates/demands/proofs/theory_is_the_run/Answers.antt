@@ -1,4 +1,4 @@
-use Rattle.paper.specs.Sheet.{sheet_of}
+use Rattle.sheet.specs.Contents.{contents}
 use Rattle.demands.proofs.Laws.{stored_runs}
 use Rattle.demands.proofs.theory_is_the_run.Goals as goal
 
@@ -7,5 +7,5 @@ returns c = let h = c.theory in
     record {
       stored = h.ensures.stored;
       behind = h.ensures.behind;
-      runs = stored_runs (sheet_of c.args.b.now c.args.t) c.requires.1 c.args.n h.ensures.stored;
+      runs = stored_runs (contents c.args.sheet) c.args.sheet.fine c.args.n h.ensures.stored;
     }

@@ -1,30 +1,31 @@
 use Prim.Native.Nat.{◌+◌}
-use lib.ListN.{take}
-use Rattle.seek.specs.Seeking.{answered}
-use mathlib.Core.Path.{ap}
-use Rattle.paper.specs.declared.Compiled.{Compiled}
+use mathlib.Core.Path.{◌≡◌, refl, sym, ap, ◌∙◌}
+use native.Mathlib.Omega.{arith}
+use Rattle.std.specs.Prelude.{Ok}
 use Rattle.paper.specs.Clauses.{theory}
 use Rattle.paper.specs.Circuit.{compile}
 use Rattle.paper.specs.Answers.{compile_rows}
-use mathlib.Core.Path.{◌≡◌, sym, ◌∙◌}
-use native.Mathlib.Omega.{arith}
-use Rattle.paper.specs.Sheet.{sheet_of}
+use Rattle.sheet.specs.Contents.{contents}
 use Rattle.variables.proofs.Laws.{sheet_counts}
+use Rattle.seek.specs.Seeking.{entries_of}
 use Rattle.plan.proofs.Tables.{left_rows, left_first}
-use borrow.Author.Rules.{rules}
 use Rattle.plan.proofs.try_horizon.Goals as goal
 
-pub seek-requires : goal.seek-requires
-seek-requires c = let a = c.args in
+pub invariant_of-circuit : goal.invariant_of-circuit
+invariant_of-circuit c = let s = c.args.sheet in
     let h = c.compile_theory-built in
-    (left_rows (sheet_of a.b.now a.t) c.requires.1 a.n c.requires.2 a.limit a.table.now _ h.result _ _ _ h.ensures.built h.ensures.rows c.in-Whole.is a.t (sheet_counts a.b.now a.t) c.requires.0.bounds, search rules, c.requires.4, c.requires.5)
+    record {
+      rows = left_rows (contents s) s.fine c.args.n c.requires.0 c.args.limit c.args.table.now _ h.result _ _ _ h.ensures.built h.ensures.rows c.in-Whole.is s.parts.trailer (sheet_counts s.parts.bytes.now s.parts.trailer) s.parts.whole.bounds;
+      started = c.requires.1;
+    }
 
 pub returns-in-Whole : goal.returns-in-Whole
 returns-in-Whole c = let a = c.args in
+    let p = contents a.sheet in
     let h = c.compile_theory-built in
     let g = c.in-Whole.is in
     record {
       built_is = sym g ∙ h.ensures.built;
-      rows_are = h.ensures.rows ∙ ap (λ x. compile_rows (compile (theory (sheet_of a.b.now a.t) a.n)).table a.table.now (Compiled.Answered x)) g;
-      found_is = λ e k i q. let z : a.n ≡ 0 + a.n = omega arith in ap (λ m. answered c.seek.result.ok (take m c.seek.result.schedule)) z ∙ left_first (sheet_of a.b.now a.t) c.requires.1 a.n c.requires.2 a.limit a.table.now _ h.result _ _ _ h.ensures.built h.ensures.rows g a.t.actions (sheet_counts a.b.now a.t).actions_are _ (c.seek.ensures (sheet_of a.b.now a.t) (sheet_counts a.b.now a.t) c.requires.3).says;
+      rows_are = h.ensures.rows ∙ ap (λ x. compile_rows (compile (theory p a.n)).table a.table.now (Ok x)) g;
+      found_is = λ e k i q. let z : a.n ≡ 0 + a.n = omega arith in ap (λ m. entries_of m c.seek-found.result) z ∙ left_first p a.sheet.fine a.n c.requires.0 a.limit a.table.now _ h.result _ _ _ h.ensures.built h.ensures.rows g p.A refl _ c.seek-found.ensures.says;
     }

@@ -1,21 +1,25 @@
-use lib.ListN.{take}
-use Rattle.paper.specs.Operations.{table_of}
-use Rattle.paper.specs.Search.{passes}
+use mathlib.Core.Path.{◌≡◌, sym, ◌∙◌}
+use native.Mathlib.Omega.{arith}
+use lib.ListN.{length, take}
+use Rattle.sheet.specs.Contents.{contents}
+use Rattle.prefixes.specs.Circuits.{passes_of}
 use Rattle.seek.proofs.Steps.{done, turn_found, turn_on}
 use borrow.Author.Rules.{rules}
 use Rattle.seek.proofs.+seek.Goals as goal
 
-pub returns-then-f : goal.returns-then-f
-returns-then-f t c = let a = c.args in
+pub returns-then-is_some : goal.returns-then-is_some
+returns-then-is_some t c = let a = c.args in
     let l = c.loop-e in
-    λ p h s. turn_found (passes p a.n (table_of a.table.now a.count) a.root) a.t.actions a.left a.at l.e a.schedule c.seek-f.result.schedule c.seek-f.result.ok (search rules) l.invariant.1 (search rules) (l.invariant.3 p h s) (c.seek-f.ensures p h s) c.if-f.true
+    let n : length a.schedule ≡ 8 = search rules in
+    turn_found (passes_of a.circuit.now) (contents a.circuit.now.sheet).A a.left a.at l.e a.schedule c.seek-found.result (omega arith) l.invariant.1 (search rules) l.invariant.3 c.seek-found.ensures (sym c.is_some.ensures ∙ c.if-is_some.true)
 
 pub loop-e-preserved : goal.loop-e-preserved
 loop-e-preserved t c = let a = c.args in
     let l = c.loop-e in
-    (search rules, l.invariant.1, search rules, λ p h s. turn_on (passes p a.n (table_of a.table.now a.count) a.root) a.t.actions a.left a.at l.e a.schedule c.seek-f.result.schedule c.seek-f.result.ok (search rules) l.invariant.1 (search rules) (l.invariant.3 p h s) (c.seek-f.ensures p h s) c.if-f.false)
+    let n : length a.schedule ≡ 8 = search rules in
+    (search rules, l.invariant.1, search rules, turn_on (passes_of a.circuit.now) (contents a.circuit.now.sheet).A a.left a.at l.e a.schedule c.seek-found.result (omega arith) l.invariant.1 (search rules) l.invariant.3 c.seek-found.ensures (sym c.is_some.ensures ∙ c.if-is_some.false))
 
 pub returns : goal.returns
 returns t c = let a = c.args in
     let l = c.loop-e in
-    λ p h s. done (passes p a.n (table_of a.table.now a.count) a.root) a.t.actions a.left (take a.at a.schedule) l.e (l.invariant.3 p h s) (search rules) _
+    done (passes_of a.circuit.now) (contents a.circuit.now.sheet).A a.left (take a.at a.schedule) l.e l.invariant.3 (search rules)

@@ -9,6 +9,3 @@ use Rattle.sheet.proofs.first_bad.Given as goal
 abbrev pub invariant-loop : goal.invariant-loop
 invariant-loop l = (l.counter ≤ l.n) × (l.step ≡ width l.part) × (l.at + width l.part * (l.n - l.counter) ≤ length l.b)
     × (first_in (filter (bad_row l.b l.t l.part) (offsets l.at (width l.part) (l.n - l.counter))) ≡ first_in (filter (bad_row l.b l.t l.part) (offsets l.from (width l.part) l.n)))
-
-abbrev pub decreases-loop : goal.decreases-loop
-decreases-loop l = l.n - l.counter

@@ -2,14 +2,13 @@ use mathlib.Core.Path.{◌≡◌}
 use Prim.Native.Nat.{ℕ, ◌-◌, ◌≤◌}
 use lib.ListN.{length}
 use Rattle.paper.specs.Lists.{each, up_from}
-use Rattle.paper.specs.Sheet.{Sheet}
-use Rattle.variables.specs.Numbering.{Counts}
+use Rattle.sheet.specs.Contents.{contents}
 use Rattle.theory.specs.Making.{Adds, exclusions_of}
 use Rattle.theory.proofs.exclusions_of_step.Given as goal
 
 abbrev pub invariant-loop-a : goal.invariant-loop-a
 invariant-loop-a l = (l.a ≤ l.actions) × (length l.literals ≡ length l.initial.literals) × (length l.ends ≡ length l.initial.ends)
-    × ((p : Sheet) (n : ℕ) → Counts p l.t → Adds (each (up_from 0 l.a) (exclusions_of p n l.step)) l.initial.literals l.literals l.initial.ends l.ends l.initial.so l.so)
+    × ((n : ℕ) → Adds (each (up_from 0 l.a) (exclusions_of (contents l.sheet) n l.step)) l.initial.literals l.literals l.initial.ends l.ends l.initial.so l.so)
 
 abbrev pub decreases-loop-a : goal.decreases-loop-a
 decreases-loop-a l = l.actions - l.a

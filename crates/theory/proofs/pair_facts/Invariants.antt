@@ -3,15 +3,14 @@ use mathlib.Core.List.{map}
 use Prim.Native.Nat.{ℕ, ◌-◌, ◌≤◌}
 use lib.ListN.{length}
 use Rattle.paper.specs.Lists.{each, up_from}
-use Rattle.paper.specs.Sheet.{Sheet}
-use Rattle.variables.specs.Numbering.{Counts}
+use Rattle.sheet.specs.Contents.{contents}
 use mathlib.Core.Bool.{true}
 use Rattle.theory.specs.Making.{Adds, fact_as, besides}
 use Rattle.theory.proofs.pair_facts.Given as goal
 
 abbrev pub invariant-loop-k : goal.invariant-loop-k
 invariant-loop-k l = (l.k ≤ l.facts) × (length l.literals ≡ length l.initial.literals) × (length l.ends ≡ length l.initial.ends)
-    × ((p : Sheet) (n : ℕ) → Counts p l.t → Adds (each (up_from 0 l.k) (λ j. map (besides l.ahead l.x) (fact_as p n true l.moment l.one l.nil j))) l.initial.literals l.literals l.initial.ends l.ends l.initial.so l.so)
+    × ((n : ℕ) → Adds (each (up_from 0 l.k) (λ j. map (besides l.ahead l.x) (fact_as (contents l.sheet) n true l.moment l.one l.nil j))) l.initial.literals l.literals l.initial.ends l.ends l.initial.so l.so)
 
 abbrev pub decreases-loop-k : goal.decreases-loop-k
 decreases-loop-k l = l.facts - l.k

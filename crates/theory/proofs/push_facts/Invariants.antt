@@ -2,14 +2,13 @@ use mathlib.Core.Path.{◌≡◌}
 use Prim.Native.Nat.{ℕ, ◌-◌, ◌≤◌}
 use lib.ListN.{length}
 use Rattle.paper.specs.Lists.{each, up_from}
-use Rattle.paper.specs.Sheet.{Sheet}
-use Rattle.variables.specs.Numbering.{Counts}
+use Rattle.sheet.specs.Contents.{contents}
 use Rattle.theory.specs.Making.{Pushes, fact_as}
 use Rattle.theory.proofs.push_facts.Given as goal
 
 abbrev pub invariant-loop-k : goal.invariant-loop-k
 invariant-loop-k l = (l.k ≤ l.facts) × (length l.literals ≡ length l.initial.literals)
-    × ((p : Sheet) (n : ℕ) → Counts p l.t → Pushes (each (up_from 0 l.k) (fact_as p n l.sign l.moment l.one l.nil)) l.initial.literals l.literals l.initial.so l.so)
+    × ((n : ℕ) → Pushes (each (up_from 0 l.k) (fact_as (contents l.sheet) n l.sign l.moment l.one l.nil)) l.initial.literals l.literals l.initial.so l.so)
 
 abbrev pub decreases-loop-k : goal.decreases-loop-k
 decreases-loop-k l = l.facts - l.k

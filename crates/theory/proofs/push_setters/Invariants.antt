@@ -2,8 +2,7 @@ use mathlib.Core.Path.{◌≡◌}
 use Prim.Native.Nat.{ℕ, ◌-◌, ◌≤◌}
 use lib.ListN.{length, get_or}
 use Rattle.paper.specs.Lists.{each, up_from}
-use Rattle.paper.specs.Sheet.{Sheet}
-use Rattle.variables.specs.Numbering.{Counts}
+use Rattle.sheet.specs.Contents.{contents}
 use mathlib.Core.List.{[]}
 use Rattle.theory.specs.Making.{Pushes}
 use Rattle.theory.proofs.Parts.{setter_part}
@@ -11,7 +10,7 @@ use Rattle.theory.proofs.push_setters.Given as goal
 
 abbrev pub invariant-loop-j : goal.invariant-loop-j
 invariant-loop-j l = (l.j ≤ l.count) × (length l.literals ≡ length l.initial.literals)
-    × ((p : Sheet) (n : ℕ) → Counts p l.t → Pushes (each (up_from 0 l.j) (setter_part p n l.step (λ r. get_or (get_or l.rules r []) l.i 0) l.k)) l.initial.literals l.literals l.initial.so l.so)
+    × ((n : ℕ) → Pushes (each (up_from 0 l.j) (setter_part (contents l.sheet) n l.step (λ r. get_or (get_or l.rules r []) l.i 0) l.k)) l.initial.literals l.literals l.initial.so l.so)
 
 abbrev pub decreases-loop-j : goal.decreases-loop-j
 decreases-loop-j l = l.count - l.j

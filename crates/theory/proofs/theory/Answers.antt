@@ -4,7 +4,7 @@ use borrow.Author.Rules.{rules}
 use Rattle.theory.proofs.theory.Goals as goal
 
 pub steps-requires : goal.steps-requires
-steps-requires c = let q = c.requires in (q.0.bounds, q.2, sheet_acts _ _ _ _ _ _ _ q.1 q.2 c.starts_at.ensures c.goals_at.ensures c.needs-needs.ensures c.rules-rules.ensures)
+steps-requires c = let q = c.requires in let s = c.args.sheet in (q.0, sheet_acts _ _ _ _ _ _ _ s.fine q.0 c.starts_at.ensures c.goals_at.ensures c.needs.ensures c.rules.ensures)
 
 pub shape_of-literals : goal.shape_of-literals
 shape_of-literals c = search rules
@@ -14,8 +14,8 @@ shape_of-ends c = search rules
 
 pub returns : goal.returns
 returns c = let q = c.requires in
-    let h = theory_stored _ _ _ _ _ _ _ q.1 q.2 c.starts_at.ensures c.goals_at.ensures c.needs-needs.ensures c.rules-rules.ensures
-    (let s = shape_of-literals c in let k = q.3 in omega arith) (let s = shape_of-ends c in let k = q.4 in omega arith) c.clauses_at-start.ensures c.clauses_at-goal.ensures c.steps.ensures in
+    let h = theory_stored _ _ _ _ _ _ _ c.args.sheet.fine q.0 c.starts_at.ensures c.goals_at.ensures c.needs.ensures c.rules.ensures
+    (let s = shape_of-literals c in let k = q.1 in omega arith) (let s = shape_of-ends c in let k = q.2 in omega arith) c.clauses_at-start.ensures c.clauses_at-goal.ensures c.steps.ensures in
     record {
       stored = h.stored;
       behind = (h.literals_behind, h.ends_behind);

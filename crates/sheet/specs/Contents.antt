@@ -1,0 +1,13 @@
+-- What an accepted sheet holds, and what decode says where a sheet was read.
+-- Assumes nothing.
+use Rattle.std.specs.Prelude.{Result, Ok, Err}
+use Rattle.paper.specs.declared.Fault.{Fault}
+use Rattle.paper.specs.Sheet as paper
+use Rattle.sheet.specs.declared.Sheet.{Sheet}
+
+abbrev pub contents : Sheet → paper.Sheet
+contents s = paper.sheet_of s.parts.bytes.now s.parts.trailer
+
+abbrev pub read_as : Result Sheet Fault → Result paper.Sheet Fault
+read_as (Ok s) = Ok (contents s)
+read_as (Err f) = Err f
