@@ -13,6 +13,7 @@ ghost use Rattle.theory.specs.Making as spec;
 
 use paper::{Moment, Step};
 use sheet::Sheet;
+use variables::Numbering;
 
 // How much of the two arrays is filled.
 #[derive(Clone, Copy)]
@@ -109,7 +110,10 @@ fn push_fact(
     requires { (moment.0 ≤ 8) × (k < 12) }
     ensures { (n : ℕ) → spec.Pushes (spec.fact_as (contents sheet.entry) n sign moment one nil k) literals.old literals.new m result }
 {
-    let x = variables::fact(sheet.parts.trailer, moment, k);
+    let x = Numbering {
+        trailer: sheet.parts.trailer,
+    }
+    .fact(moment, k);
     let first = push_if(literals, m, bits::bit(one, k), x, sign);
     push_if(literals, first, bits::bit(nil, k), x, !sign)
 }
@@ -190,7 +194,10 @@ fn pair_facts_at(
     requires { (moment.0 ≤ 8) × (k < 12) × (x ≤ 432) }
     ensures { (n : ℕ) → spec.Adds (map (spec.besides ahead x) (spec.fact_as (contents sheet.entry) n true moment one nil k)) literals.old literals.new ends.old ends.new m result }
 {
-    let y = variables::fact(sheet.parts.trailer, moment, k);
+    let y = Numbering {
+        trailer: sheet.parts.trailer,
+    }
+    .fact(moment, k);
     let first = pair_fact_if(literals, ends, m, bits::bit(one, k), y, true, x, ahead);
     pair_fact_if(literals, ends, first, bits::bit(nil, k), y, false, x, ahead)
 }
@@ -232,7 +239,10 @@ fn need_clauses(
     requires { (step.0 < 8) × (a < 12) }
     ensures { (n : ℕ) → spec.Adds (map (spec.besides false (clauses.action (contents sheet.entry) n step a)) (clauses.literals (contents sheet.entry) n (before step) one nil)) literals.old literals.new ends.old ends.new m result }
 {
-    let x = variables::action(sheet.parts.trailer, step, a);
+    let x = Numbering {
+        trailer: sheet.parts.trailer,
+    }
+    .action(step, a);
     pair_facts(literals, ends, m, sheet, step.before(), one, nil, x, false)
 }
 
@@ -292,8 +302,14 @@ fn z_clauses(
     ensures { (n : ℕ) → spec.Adds (spec.z_of (contents sheet.entry) n step j (get_or rule 0 0) (get_or rule 1 0) (get_or rule 2 0)) literals.old literals.new ends.old ends.new m result }
 {
     let number = rule[0] as usize;
-    let a = variables::action(sheet.parts.trailer, step, number - 1);
-    let z = variables::z(sheet.parts.trailer, step, j);
+    let a = Numbering {
+        trailer: sheet.parts.trailer,
+    }
+    .action(step, number - 1);
+    let z = Numbering {
+        trailer: sheet.parts.trailer,
+    }
+    .z(step, j);
     let one = rule[1];
     let nil = rule[2];
     let first = pair(literals, ends, m, a, true, z, false);
@@ -345,7 +361,10 @@ fn effect_clauses(
     requires { (step.0 < 8) × (j < 24) }
     ensures { (n : ℕ) → spec.Adds (map (spec.besides true (clauses.z (contents sheet.entry) n step j)) (clauses.literals (contents sheet.entry) n (after step) one nil)) literals.old literals.new ends.old ends.new m result }
 {
-    let x = variables::z(sheet.parts.trailer, step, j);
+    let x = Numbering {
+        trailer: sheet.parts.trailer,
+    }
+    .z(step, j);
     pair_facts(literals, ends, m, sheet, step.after(), one, nil, x, true)
 }
 
@@ -391,8 +410,14 @@ fn exclusion(
     ensures { (n : ℕ) → spec.Adds (only (ltb a b && clauses.every_pair a b) (clauses.no· (clauses.action (contents sheet.entry) n step a) ∷ (clauses.no· (clauses.action (contents sheet.entry) n step b) ∷ []))) literals.old literals.new ends.old ends.new m result }
 {
     if excludes(a, b) {
-        let x = variables::action(sheet.parts.trailer, step, a);
-        let y = variables::action(sheet.parts.trailer, step, b);
+        let x = Numbering {
+            trailer: sheet.parts.trailer,
+        }
+        .action(step, a);
+        let y = Numbering {
+            trailer: sheet.parts.trailer,
+        }
+        .action(step, b);
         return pair(literals, ends, m, x, false, y, false);
     }
     m
@@ -458,7 +483,10 @@ fn push_setters(
             literals,
             so,
             bits::bit(rule[i], k),
-            variables::z(sheet.parts.trailer, step, j),
+            Numbering {
+                trailer: sheet.parts.trailer,
+            }
+            .z(step, j),
             true,
         );
     }
@@ -480,8 +508,14 @@ fn frame(
     requires { (step.0 < 8) × (i < 5) × (k < 12) }
     ensures { (n : ℕ) → spec.Adds (spec.frame_of (contents sheet.entry) n step (λ j. get_or (get_or rules j []) i 0) sign k ∷ []) literals.old literals.new ends.old ends.new m result }
 {
-    let x = variables::fact(sheet.parts.trailer, step.before(), k);
-    let y = variables::fact(sheet.parts.trailer, step.after(), k);
+    let x = Numbering {
+        trailer: sheet.parts.trailer,
+    }
+    .fact(step.before(), k);
+    let y = Numbering {
+        trailer: sheet.parts.trailer,
+    }
+    .fact(step.after(), k);
     let first = push(literals, m, x, sign);
     let second = push_setters(literals, first, sheet, rules, step, i, k);
     let third = push(literals, second, y, !sign);

@@ -16,67 +16,75 @@ pub enum Meaning {
     Other,
 }
 
-// How many variables a step has.
-fn stride(t: Trailer) -> usize
-    requires { Bounded t }
-    ensures { (result ≡ spec.stride_of t) × (1 ≤ result) × (result ≤ 48) }
-{
-    t.actions + t.rules + t.facts
+// The counts of a trailer within their bounds: they alone say which number a variable has.
+#[derive(Clone, Copy)]
+pub struct Numbering {
+    pub trailer: Trailer,
+    pub ghost bounded: { Bounded trailer },
 }
 
-// Where the variables of moment i, and of the step that follows it, begin.
-fn base(t: Trailer, i: usize) -> usize
-    requires { Bounded t × (i ≤ 8) }
-    ensures { (result ≡ i * spec.stride_of t) × (result ≤ 384) }
-{
-    i * stride(t)
-}
-
-// The variable of fact k at a moment.
-pub fn fact(t: Trailer, m: Moment, k: usize) -> u16
-    requires { Bounded t × (m.0 ≤ 8) × (k < 12) }
-    ensures { ((p : Sheet) (n : ℕ) → spec.Counts p t → result ≡ clauses.fact p n m k) × (result ≤ 396) }
-{
-    (base(t, m.0) + k + 1) as u16
-}
-
-// The variable of action a, from 0, at a step.
-pub fn action(t: Trailer, i: Step, a: usize) -> u16
-    requires { Bounded t × (i.0 < 8) × (a < 12) }
-    ensures { ((p : Sheet) (n : ℕ) → spec.Counts p t → result ≡ clauses.action p n i a) × (result ≤ 408) }
-{
-    (base(t, i.0) + t.facts + a + 1) as u16
-}
-
-// The variable z of rule j at a step.
-pub fn z(t: Trailer, i: Step, j: usize) -> u16
-    requires { Bounded t × (i.0 < 8) × (j < 24) }
-    ensures { ((p : Sheet) (n : ℕ) → spec.Counts p t → result ≡ clauses.z p n i j) × (result ≤ 432) }
-{
-    (base(t, i.0) + t.facts + t.actions + j + 1) as u16
-}
-
-// How many variables there are at horizon n.
-pub fn total(t: Trailer, n: usize) -> u32
-    requires { Bounded t × (n ≤ 8) }
-    ensures { ((p : Sheet) → spec.Counts p t → result ≡ clauses.variables p n) × (result ≤ 396) }
-{
-    (t.facts + base(t, n)) as u32
-}
-
-// What the variable x + 1 stands for.
-pub fn named(t: Trailer, x: usize) -> Meaning
-    requires { Bounded t }
-    ensures { result ≡ spec.name_of t x }
-{
-    if x < t.facts {
-        return Meaning::Start(x);
+impl Numbering {
+    // How many variables a step has.
+    fn stride(self) -> usize
+        ensures { (result ≡ spec.stride_of self.trailer) × (1 ≤ result) × (result ≤ 48) }
+    {
+        self.trailer.actions + self.trailer.rules + self.trailer.facts
     }
-    let past = x - t.facts;
-    let width = stride(t);
-    let k = past % width;
-    if k < t.actions {
-        return Meaning::Action(Step(past / width), k);
+
+    // Where the variables of moment i, and of the step that follows it, begin.
+    fn base(self, i: usize) -> usize
+        requires { i ≤ 8 }
+        ensures { (result ≡ i * spec.stride_of self.trailer) × (result ≤ 384) }
+    {
+        i * self.stride()
     }
-    Meaning::Other
+
+    // The variable of fact k at a moment.
+    pub fn fact(self, m: Moment, k: usize) -> u16
+        requires { (m.0 ≤ 8) × (k < 12) }
+        ensures { ((p : Sheet) (n : ℕ) → spec.Counts p self.trailer → result ≡ clauses.fact p n m k) × (result ≤ 396) }
+    {
+        (self.base(m.0) + k + 1) as u16
+    }
+
+    // The variable of action a, from 0, at a step.
+    pub fn action(self, i: Step, a: usize) -> u16
+        requires { (i.0 < 8) × (a < 12) }
+        ensures { ((p : Sheet) (n : ℕ) → spec.Counts p self.trailer → result ≡ clauses.action p n i a) × (result ≤ 408) }
+    {
+        (self.base(i.0) + self.trailer.facts + a + 1) as u16
+    }
+
+    // The variable z of rule j at a step.
+    pub fn z(self, i: Step, j: usize) -> u16
+        requires { (i.0 < 8) × (j < 24) }
+        ensures { ((p : Sheet) (n : ℕ) → spec.Counts p self.trailer → result ≡ clauses.z p n i j) × (result ≤ 432) }
+    {
+        (self.base(i.0) + self.trailer.facts + self.trailer.actions + j + 1) as u16
+    }
+
+    // How many variables there are at horizon n.
+    pub fn total(self, n: usize) -> u32
+        requires { n ≤ 8 }
+        ensures { ((p : Sheet) → spec.Counts p self.trailer → result ≡ clauses.variables p n) × (result ≤ 396) }
+    {
+        (self.trailer.facts + self.base(n)) as u32
+    }
+
+    // What the variable x + 1 stands for.
+    pub fn named(self, x: usize) -> Meaning
+        ensures { result ≡ spec.name_of self.trailer x }
+    {
+        let t = self.trailer;
+        if x < t.facts {
+            return Meaning::Start(x);
+        }
+        let past = x - t.facts;
+        let width = self.stride();
+        let k = past % width;
+        if k < t.actions {
+            return Meaning::Action(Step(past / width), k);
+        }
+        Meaning::Other
+    }
 }

@@ -1,6 +1,6 @@
 use native.Mathlib.Omega.{arith}
 use Rattle.variables.proofs.Laws.{is_start_lem, is_action, is_other}
-use Rattle.variables.proofs.named.Goals as goal
+use Rattle.variables.proofs.Numbering.named.Goals as goal
 
 pub returns-then-x-t : goal.returns-then-x-t
 returns-then-x-t c = is_start_lem _ _ c.if-x-t.true
