@@ -1,4 +1,4 @@
-// Bits of a mask and numbers in bytes: what the machine's operations say of document 01's bits stands in proofs/.
+// Bits of a mask and numbers in bytes: what the machine's operations say of a mask's bits stands in proofs/.
 #![tactic(auto)]
 
 ghost use Rattle.std.specs.Prelude.{◌≡◌, cond, ◌++◌, ◌+◌, ◌^◌, ◌≤◌, ◌<◌, length, drop};
@@ -23,18 +23,12 @@ pub fn weight(k: usize) -> u32
     1u32 << k
 }
 
-// A test as a number.
+// A test as a number, in the words of what is counted.
+#[tactic(auto, unfolding(paper::specs::Counting::worth))]
 pub fn one_if(t: bool) -> u32
     ensures { (result ≡ cond t 1 0) × (result ≡ counting.worth t 1) × (result ≤ 1) }
 {
-    if t { 1 } else { 0 }
-}
-
-// A byte as a 16-bit number.
-fn wide(x: u8) -> u16
-    ensures { (result ≡ x) × (result < 256) }
-{
-    x as u16
+    u32::from(t)
 }
 
 // The 16-bit number at a place, low byte first.
@@ -42,14 +36,7 @@ pub fn word(b: &[u8], at: usize) -> u16
     requires { at + 1 < length b.now }
     ensures { result ≡ sheet.word b.now at }
 {
-    wide(b[at]) + 256 * wide(b[at + 1])
-}
-
-// A byte as a 32-bit number.
-fn wider(x: u8) -> u32
-    ensures { (result ≡ x) × (result < 256) }
-{
-    x as u32
+    u16::from_le_bytes([b[at], b[at + 1]])
 }
 
 // The 32-bit number at a place, low byte first.
@@ -57,7 +44,7 @@ pub fn long(b: &[u8], at: usize) -> u32
     requires { at + 3 < length b.now }
     ensures { result ≡ operation.long b.now at }
 {
-    wider(b[at]) + 256 * (wider(b[at + 1]) + 256 * (wider(b[at + 2]) + 256 * wider(b[at + 3])))
+    u32::from_le_bytes([b[at], b[at + 1], b[at + 2], b[at + 3]])
 }
 
 // A number's four bytes at the front, low byte first.
@@ -65,22 +52,19 @@ fn put(out: &mut [u8], n: u32)
     requires { 4 ≤ length out.old }
     ensures { out.new ≡ operation.bytes4 n ++ drop 4 out.old }
 {
-    out[0] = (n % 256) as u8;
-    out[1] = (n / 256 % 256) as u8;
-    out[2] = (n / 65536 % 256) as u8;
-    out[3] = (n / 16777216 % 256) as u8;
+    out[..4].copy_from_slice(&n.to_le_bytes());
 }
 
 // The numbers from the front, as many as fit whole; the rest is untouched.
+// A recursion: of a slice written through `chunks_exact_mut` no more than its length would be known.
+#[tactic(auto, using(crate::proofs::Told::told_none, crate::proofs::Told::told_short, crate::proofs::Told::told_more))]
 pub fn tell(out: &mut [u8], ns: &[u32])
     ensures { out.new ≡ told ns.now out.old }
 {
-    if ns.len() == 0 {
-        return;
+    if let [n, others @ ..] = ns {
+        if 4 <= out.len() {
+            put(out, *n);
+            tell(&mut out[4..], others);
+        }
     }
-    if out.len() < 4 {
-        return;
-    }
-    put(out, ns[0]);
-    tell(&mut out[4..], &ns[1..]);
 }
