@@ -111,7 +111,7 @@ fn horizons(sheet: Sheet, limit: u32, table: &mut [u8], schedule: &mut [u8]) -> 
     requires { sheet.parts.trailer.horizon ≤ length schedule.old }
     ensures { spec.Plans table.old schedule.old (operation.plan_from (contents sheet.entry) limit (operation.room table.old) sheet.entry.parts.trailer.horizon 0) result table.new schedule.new }
 {
-    let starts = starts::start_words(sheet);
+    let starts = starts::start_words(sheet.parts);
     let mut values = [0u64; 65536];
     let last = sheet.parts.trailer.horizon;
     let mut n: usize = 0;
@@ -133,7 +133,7 @@ fn plan_sheet(sheet: Sheet, limit: u32, table: &mut [u8], schedule: &mut [u8]) -
     if schedule.len() < sheet.parts.trailer.horizon {
         return Planned::Refused(Fault::ShortSchedule);
     }
-    if starts::start_count(sheet) == 0 {
+    if starts::start_count(sheet.parts) == 0 {
         return Planned::Refused(Fault::NoStart);
     }
     horizons(sheet, limit, table, schedule)

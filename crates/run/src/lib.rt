@@ -149,13 +149,13 @@ fn entries_fit(schedule: &[u8], a: usize) -> bool
 fn good_run(sheet: Sheet, state: u32, schedule: &[u8]) -> bool
     ensures { result ≡ operation.good_run (contents sheet.entry) state schedule.now }
 {
-    if !sheet::fits(sheet.facts(), state) {
+    if !sheet::fits(sheet.parts.facts(), state) {
         return false;
     }
     if 8 < schedule.len() {
         return false;
     }
-    entries_fit(schedule, sheet.actions())
+    entries_fit(schedule, sheet.parts.actions())
 }
 
 fn run_sheet(sheet: Sheet, state: u32, schedule: &[u8]) -> Result<Ended, Fault>
@@ -165,8 +165,14 @@ fn run_sheet(sheet: Sheet, state: u32, schedule: &[u8]) -> Result<Ended, Fault>
         return Err(Fault::BadCall);
     }
     let count = sheet.parts.trailer.rules;
-    let r = walk(sheet.needs(), sheet.rules(), count, schedule, state as u16);
-    let goal = starts::is_goal(sheet, r.state);
+    let r = walk(
+        sheet.parts.needs(),
+        sheet.parts.rules(),
+        count,
+        schedule,
+        state as u16,
+    );
+    let goal = starts::is_goal(sheet.parts, r.state);
     Ok(Ended {
         done: r.done as u32,
         state: r.state,

@@ -25,7 +25,7 @@ pub fn seek(
     if left == 0 {
         return Some(schedule);
     }
-    let last = circuit.sheet.actions();
+    let last = circuit.sheet.parts.actions();
     let mut e: usize = 0;
     while e <= last {
         let mut next = schedule;

@@ -197,6 +197,9 @@ fn rule_at(b: &[u8], at: usize) -> [u16; 5]
 }
 
 impl<'a> Parts<'a> {
+    ghost use Rattle.paper.specs.Step.{need_of, rule_of};
+    ghost use Rattle.sheet.specs.Contents.{sheet_in};
+
     // Where the body begins.
     fn body_at(self) -> usize
         ensures { result ≡ paper.body_at self.entry.bytes.now self.entry.trailer }
@@ -236,12 +239,69 @@ impl<'a> Parts<'a> {
         let goals = first_bad(b, t, Part::Clauses, self.goals_at(), t.goals);
         needs.or(rules).or(starts).or(goals)
     }
+
+    // How many facts there are.
+    pub fn facts(self) -> usize
+        ensures { result ≡ (sheet_in self.entry).F }
+    {
+        self.trailer.facts
+    }
+
+    // How many actions there are.
+    pub fn actions(self) -> usize
+        ensures { result ≡ (sheet_in self.entry).A }
+    {
+        self.trailer.actions
+    }
+
+    // Zeros where there is no such action.
+    #[tactic(auto, using(crate::proofs::Laws::need_is, crate::proofs::Laws::need_none))]
+    fn need(self, a: usize) -> [u16; 2]
+        ensures { result ≡ spec.pair (need_of (sheet_in self.entry) a) }
+    {
+        if a < self.trailer.actions {
+            return need_at(self.bytes, self.body_at() + 4 * a);
+        }
+        [0u16; 2]
+    }
+
+    // The needs of the actions: need1, need0.
+    pub fn needs(self) -> [[u16; 2]; 12]
+        ensures { result ≡ spec.pairs_of (sheet_in self.entry) }
+    {
+        let mut out = [[0u16; 2]; 12];
+        for a in 0..12 {
+            out[a] = self.need(a);
+        }
+        out
+    }
+
+    // Zeros where there is no such rule.
+    #[tactic(auto, using(crate::proofs::Laws::rule_is, crate::proofs::Laws::rule_none))]
+    fn rule(self, j: usize) -> [u16; 5]
+        ensures { result ≡ spec.fives (rule_of (sheet_in self.entry) j) }
+    {
+        if j < self.trailer.rules {
+            return rule_at(self.bytes, self.rules_at() + 10 * j);
+        }
+        [0u16; 5]
+    }
+
+    // The decoded rules: action, cond1, cond0, set1, set0.
+    pub fn rules(self) -> [[u16; 5]; 24]
+        ensures { result ≡ spec.fives_of (sheet_in self.entry) }
+    {
+        let mut out = [[0u16; 5]; 24];
+        for j in 0..24 {
+            out[j] = self.rule(j);
+        }
+        out
+    }
 }
 
 impl<'a> Sheet<'a> {
     ghost use Rattle.std.specs.Prelude.{IfOk};
-    ghost use Rattle.paper.specs.Step.{need_of, rule_of};
-    ghost use Rattle.sheet.specs.Contents.{contents, read_as};
+    ghost use Rattle.sheet.specs.Contents.{read_as};
 
     // The first refusal that applies, or the sheet.
     #[tactic(auto, using(crate::proofs::Laws::reading))]
@@ -264,63 +324,5 @@ impl<'a> Sheet<'a> {
             Some(at) => Err(Fault::BadRow(at)),
             None => Ok(Sheet { parts }),
         }
-    }
-
-    // How many facts there are.
-    pub fn facts(self) -> usize
-        ensures { result ≡ (contents self.entry).F }
-    {
-        self.parts.trailer.facts
-    }
-
-    // How many actions there are.
-    pub fn actions(self) -> usize
-        ensures { result ≡ (contents self.entry).A }
-    {
-        self.parts.trailer.actions
-    }
-
-    // Zeros where there is no such action.
-    #[tactic(auto, using(crate::proofs::Laws::need_is, crate::proofs::Laws::need_none))]
-    fn need(self, a: usize) -> [u16; 2]
-        ensures { result ≡ spec.pair (need_of (contents self.entry) a) }
-    {
-        if a < self.parts.trailer.actions {
-            return need_at(self.parts.bytes, self.parts.body_at() + 4 * a);
-        }
-        [0u16; 2]
-    }
-
-    // The needs of the actions: need1, need0.
-    pub fn needs(self) -> [[u16; 2]; 12]
-        ensures { result ≡ spec.pairs_of (contents self.entry) }
-    {
-        let mut out = [[0u16; 2]; 12];
-        for a in 0..12 {
-            out[a] = self.need(a);
-        }
-        out
-    }
-
-    // Zeros where there is no such rule.
-    #[tactic(auto, using(crate::proofs::Laws::rule_is, crate::proofs::Laws::rule_none))]
-    fn rule(self, j: usize) -> [u16; 5]
-        ensures { result ≡ spec.fives (rule_of (contents self.entry) j) }
-    {
-        if j < self.parts.trailer.rules {
-            return rule_at(self.parts.bytes, self.parts.rules_at() + 10 * j);
-        }
-        [0u16; 5]
-    }
-
-    // The decoded rules: action, cond1, cond0, set1, set0.
-    pub fn rules(self) -> [[u16; 5]; 24]
-        ensures { result ≡ spec.fives_of (contents self.entry) }
-    {
-        let mut out = [[0u16; 5]; 24];
-        for j in 0..24 {
-            out[j] = self.rule(j);
-        }
-        out
     }
 }

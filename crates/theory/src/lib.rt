@@ -684,5 +684,13 @@ pub fn theory(sheet: Sheet, n: usize, literals: &mut [u16], ends: &mut [u16]) ->
         sheet.parts.goals_at(),
         sheet.parts.trailer.goals,
     );
-    steps(literals, ends, goal, sheet, sheet.needs(), sheet.rules(), n)
+    steps(
+        literals,
+        ends,
+        goal,
+        sheet,
+        sheet.parts.needs(),
+        sheet.parts.rules(),
+        n,
+    )
 }
