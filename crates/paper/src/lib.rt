@@ -57,14 +57,14 @@ pub struct Trailer {
 }
 
 // A variable of T(P), or its opposite.
-#[derive(Clone, Copy)]
+#[derive(Clone, Copy, PartialEq, Eq)]
 pub struct Lit {
     pub var: u32,
     pub sign: bool,
 }
 
 // A row of a circuit: children are row numbers; a choice has its variable, then the side where that is true.
-#[derive(Clone, Copy)]
+#[derive(Clone, Copy, PartialEq, Eq)]
 pub enum Row {
     False,
     True,
