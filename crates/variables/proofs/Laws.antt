@@ -55,6 +55,8 @@ module _ (t : Trailer) (x : ℕ) where
     unfolding name_of
     is_other k = rw (sym e, le-ltb x t.facts h, le-ltb ((x - t.facts) % s) t.actions k)
 
+pub ruleset naming = (is_start_lem, is_action, is_other)
+
 -- the value of a literal by what its variable stands for
 abbrev pub value_by : ℕ → List ℕ → Bool → Meaning → Bool
 value_by s masks sign (Start k) = beq (bit s k) sign

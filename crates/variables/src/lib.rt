@@ -40,6 +40,7 @@ impl Numbering {
     }
 
     // The variable of fact k at a moment.
+    #[tactic(auto, using(crate::proofs::Laws::fact_is))]
     pub fn fact(self, m: Moment, k: usize) -> u16
         requires { (m.0 ≤ 8) × (k < 12) }
         ensures { ((p : Sheet) (n : ℕ) → spec.Counts p self.trailer → result ≡ clauses.fact p n m k) × (result ≤ 396) }
@@ -48,6 +49,7 @@ impl Numbering {
     }
 
     // The variable of action a, from 0, at a step.
+    #[tactic(auto, using(crate::proofs::Laws::action_is))]
     pub fn action(self, i: Step, a: usize) -> u16
         requires { (i.0 < 8) × (a < 12) }
         ensures { ((p : Sheet) (n : ℕ) → spec.Counts p self.trailer → result ≡ clauses.action p n i a) × (result ≤ 408) }
@@ -56,6 +58,7 @@ impl Numbering {
     }
 
     // The variable z of rule j at a step.
+    #[tactic(auto, using(crate::proofs::Laws::z_is))]
     pub fn z(self, i: Step, j: usize) -> u16
         requires { (i.0 < 8) × (j < 24) }
         ensures { ((p : Sheet) (n : ℕ) → spec.Counts p self.trailer → result ≡ clauses.z p n i j) × (result ≤ 432) }
@@ -64,6 +67,7 @@ impl Numbering {
     }
 
     // How many variables there are at horizon n.
+    #[tactic(auto, using(crate::proofs::Laws::total_is))]
     pub fn total(self, n: usize) -> u32
         requires { n ≤ 8 }
         ensures { ((p : Sheet) → spec.Counts p self.trailer → result ≡ clauses.variables p n) × (result ≤ 396) }
@@ -72,6 +76,7 @@ impl Numbering {
     }
 
     // What the variable x + 1 stands for.
+    #[tactic(auto, using(crate::proofs::Laws::naming))]
     pub fn named(self, x: usize) -> Meaning
         ensures { result ≡ spec.name_of self.trailer x }
     {
