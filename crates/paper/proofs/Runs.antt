@@ -5,7 +5,9 @@ use mathlib.Core.List.{List, [], ◌∷◌}
 use Prim.Native.Nat.{ℕ, zero, suc, ◌+◌}
 use native.Mathlib.Omega.{arith}
 use lib.ListN.{length, get_or}
-use Rattle.paper.specs.declared.Stepped.TheVariants.{Ran, NeedUnmet, Clashed}
+use Rattle.std.specs.Prelude.{Ok, Err}
+use Rattle.paper.specs.declared.Failure.{Failure}
+use Rattle.paper.specs.declared.Failure.TheVariants.{NeedUnmet, Clashed}
 use Rattle.paper.specs.Lists.{all, up_from}
 use Rattle.paper.specs.Sheet.{Sheet, is_goal, Fine}
 use Rattle.paper.specs.Step.{clash}
@@ -21,30 +23,26 @@ state_at p s ms zero = s
 state_at p s [] (suc j) = s
 state_at p s (m ∷ ms) (suc j) = state_at p (next p m s) ms j
 
-act_ran : (p : Sheet) (m s : ℕ) → needs_met p m s ≡ true → clash p.F (firing_set p m s) ≡ false → act_set p m s ≡ Ran (next p m s)
+act_ran : (p : Sheet) (m s : ℕ) → needs_met p m s ≡ true → clash p.F (firing_set p m s) ≡ false → act_set p m s ≡ Ok (next p m s)
 unfolding act_set
 act_ran p m s n c = rw (n, c)
 
-act_unmet : (p : Sheet) (m s : ℕ) → needs_met p m s ≡ false → act_set p m s ≡ NeedUnmet
+act_unmet : (p : Sheet) (m s : ℕ) → needs_met p m s ≡ false → act_set p m s ≡ Err NeedUnmet
 unfolding act_set
 act_unmet p m s n = rw n
 
-act_clashed : (p : Sheet) (m s : ℕ) → needs_met p m s ≡ true → clash p.F (firing_set p m s) ≡ true → act_set p m s ≡ Clashed
+act_clashed : (p : Sheet) (m s : ℕ) → needs_met p m s ≡ true → clash p.F (firing_set p m s) ≡ true → act_set p m s ≡ Err Clashed
 unfolding act_set
 act_clashed p m s n c = rw (n, c)
 
 module _ (p : Sheet) (m s : ℕ) (ms : List ℕ) where
-  reach_ran : (t : ℕ) → act_set p m s ≡ Ran t → reaches_sets p (m ∷ ms) s ≡ reaches_sets p ms t
+  reach_ran : (t : ℕ) → act_set p m s ≡ Ok t → reaches_sets p (m ∷ ms) s ≡ reaches_sets p ms t
   unfolding reaches_sets
   reach_ran t e = rw e
 
-  reach_unmet : act_set p m s ≡ NeedUnmet → reaches_sets p (m ∷ ms) s ≡ false
+  reach_failed : (f : Failure) → act_set p m s ≡ Err f → reaches_sets p (m ∷ ms) s ≡ false
   unfolding reaches_sets
-  reach_unmet e = rw e
-
-  reach_clashed : act_set p m s ≡ Clashed → reaches_sets p (m ∷ ms) s ≡ false
-  unfolding reaches_sets
-  reach_clashed e = rw e
+  reach_failed f e = rw e
 
   pub reach_i : needs_met p m s ≡ true → clash p.F (firing_set p m s) ≡ false → reaches_sets p ms (next p m s) ≡ true → reaches_sets p (m ∷ ms) s ≡ true
   reach_i n c r = reach_ran (next p m s) (act_ran p m s n c) ∙ r
@@ -52,9 +50,9 @@ module _ (p : Sheet) (m s : ℕ) (ms : List ℕ) where
   pub reach_e : reaches_sets p (m ∷ ms) s ≡ true → (needs_met p m s ≡ true) × (clash p.F (firing_set p m s) ≡ false) × (reaches_sets p ms (next p m s) ≡ true)
   reach_e h = by (needs_met p m s)
       (λ n. by (clash p.F (firing_set p m s))
-      (λ c. never h (reach_clashed (act_clashed p m s n c)))
+      (λ c. never h (reach_failed Clashed (act_clashed p m s n c)))
       (λ c. (n, c, sym (reach_ran (next p m s) (act_ran p m s n c)) ∙ h)))
-      (λ n. never h (reach_unmet (act_unmet p m s n)))
+      (λ n. never h (reach_failed NeedUnmet (act_unmet p m s n)))
 
 module _ (ex : ℕ → ℕ → Bool) (p : Sheet) (N : ℕ) (fine : Fine p) (v : Assign) where
   -- the clauses of the steps from i on

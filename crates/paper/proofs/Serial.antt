@@ -8,8 +8,9 @@ use native.Mathlib.Omega.{arith}
 use lib.Dec.{eqb, ltb, leb}
 use lib.Pow.{pow_pos, pow-lt}
 use borrow.Author.Tests.{eqb-true, eqb-false, eq-eqb, ne_eqb, lt-ltb, ltb-true, ltb-false, le-leb, leb-true, leb-false}
-use Rattle.paper.specs.declared.Stepped.{Stepped}
-use Rattle.paper.specs.declared.Stepped.TheVariants.{Ran, NeedUnmet, Clashed}
+use Rattle.std.specs.Prelude.{Result, Ok, Err}
+use Rattle.paper.specs.declared.Failure.{Failure}
+use Rattle.paper.specs.declared.Failure.TheVariants.{NeedUnmet, Clashed}
 use Rattle.paper.specs.Lists.{all, up_from}
 use Rattle.paper.specs.Counting.{bit, all_below, some_below}
 use Rattle.paper.specs.Sheet.{Rule, Sheet, is_start, is_goal, Fine}
@@ -61,7 +62,7 @@ applied_none : (F s : ℕ) → s < 2 ^ F → applied F [] s ≡ s
 unfolding applied sets1 sets0
 applied_none F s h = bit_ext F _ s (mask_below_lt F _) h (λ k l. bit_mask_below F _ k l ∙ and_nil (bit s k))
 
-act_none : (p : Sheet) (s : ℕ) → s < 2 ^ p.F → act_set p 0 s ≡ Ran s
+act_none : (p : Sheet) (s : ℕ) → s < 2 ^ p.F → act_set p 0 s ≡ Ok s
 unfolding act_set
 act_none p s h = rw (needs_none p s, firing_none p s, clash_none p.F, applied_none p.F s h)
 
@@ -72,10 +73,9 @@ entry_eq p fine zero s h l = act_none p s l
 entry_eq p fine (suc a) s h l = act_one p fine a s h
 
 -- a state that a step leads to has F bits
-abbrev Bounded : ℕ → Stepped → Type 0
-Bounded F (Ran t) = t < 2 ^ F
-Bounded F NeedUnmet = Unit {0}
-Bounded F Clashed = Unit {0}
+abbrev Bounded : ℕ → Result ℕ Failure → Type 0
+Bounded F (Ok t) = t < 2 ^ F
+Bounded F (Err e) = Unit {0}
 
 stepped_bounded : (F : ℕ) (b c : Bool) (t : ℕ) → t < 2 ^ F → Bounded F (stepped b c t)
 stepped_bounded F false c t h = tt
@@ -101,13 +101,13 @@ run_eq p fine (e ∷ σ) d s h l =
     rw (entry_eq p fine e s (leb-true e p.A x.0) l)
     (cases (step p e s) (step_bounded p e s l) (λ t b. run_eq p fine σ (d + 1) t x.1 b))
   where
-    cases : (st : Stepped) → Bounded p.F st →
+    cases : (st : Result ℕ Failure) → Bounded p.F st →
         ((t : ℕ) → t < 2 ^ p.F → ((run_from p (d + 1) t σ).whole && is_goal p (run_from p (d + 1) t σ).state) ≡ reaches_sets p (map mask_of σ) t) →
         ((onward st (record { done = d; state = s; whole = false }) (λ t. run_from p (d + 1) t σ)).whole
         && is_goal p (onward st (record { done = d; state = s; whole = false }) (λ t. run_from p (d + 1) t σ)).state) ≡ then_pass st (reaches_sets p (map mask_of σ))
-    cases (Ran t) b f = f t b
-    cases NeedUnmet b f = refl
-    cases Clashed b f = refl
+    cases (Ok t) b f = f t b
+    cases (Err NeedUnmet) b f = refl
+    cases (Err Clashed) b f = refl
 
 pub reaches_eq : (p : Sheet) → Fine p → (σ : List ℕ) (s : ℕ) → entries_fit p σ ≡ true → s < 2 ^ p.F → reaches p σ s ≡ reaches_sets p (map mask_of σ) s
 unfolding reaches run

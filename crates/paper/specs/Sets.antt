@@ -1,9 +1,8 @@
 -- Steps that hold a set of actions, as a mask (bit a is action a + 1), under a relation of excluded pairs: what T(P) speaks of.
 -- Document 01's schedule is the case with at most one action a step.
 -- Assumes nothing.
-use Rattle.std.specs.Prelude.{◌≡◌, Bool, true, false, not, ◌&&◌, ◌||◌, cond, List, [], ◌∷◌, map, ℕ, zero, suc, ◌-◌, ◌^◌, eqb, ltb}
-use Rattle.paper.specs.declared.Stepped.{Stepped}
-use Rattle.paper.specs.declared.Stepped.TheVariants.{Ran, NeedUnmet, Clashed}
+use Rattle.std.specs.Prelude.{◌≡◌, Bool, true, false, not, ◌&&◌, ◌||◌, cond, List, [], ◌∷◌, map, ℕ, zero, suc, ◌-◌, ◌^◌, eqb, ltb, Result, Ok, Err}
+use Rattle.paper.specs.declared.Failure.{Failure}
 use Rattle.paper.specs.Lists.{all, filter, up_from}
 use Rattle.paper.specs.Counting.{bit, all_below}
 use Rattle.paper.specs.Sheet.{Rule, Sheet, is_start, is_goal}
@@ -21,14 +20,13 @@ unfoldable pub firing_set : Sheet → ℕ → ℕ → List Rule
 firing_set p m s = map (rule_of p) (filter (fires p m s) (up_from 0 p.R))
 
 -- the set of actions m in state s
-unfoldable pub act_set : Sheet → ℕ → ℕ → Stepped
+unfoldable pub act_set : Sheet → ℕ → ℕ → Result ℕ Failure
 act_set p m s = stepped (needs_met p m s) (clash p.F (firing_set p m s)) (applied p.F (firing_set p m s) s)
 
 -- a test of the state that a step leads to; a step that fails does not pass
-abbrev pub then_pass : Stepped → (ℕ → Bool) → Bool
-then_pass (Ran t) f = f t
-then_pass NeedUnmet f = false
-then_pass Clashed f = false
+abbrev pub then_pass : Result ℕ Failure → (ℕ → Bool) → Bool
+then_pass (Ok t) f = f t
+then_pass (Err e) f = false
 
 -- no step fails, and the end is a goal
 unfoldable pub reaches_sets : Sheet → List ℕ → ℕ → Bool

@@ -1,9 +1,9 @@
 -- One step, a run, and what a plan is.
 -- Assumes nothing.
-use Rattle.std.specs.Prelude.{Bool, true, false, not, ◌&&◌, ◌||◌, List, [], ◌∷◌, map, ℕ, zero, suc, ◌+◌, ◌^◌, eqb, leb, get_or}
+use Rattle.std.specs.Prelude.{Bool, true, false, not, ◌&&◌, ◌||◌, List, [], ◌∷◌, map, ℕ, zero, suc, ◌+◌, ◌^◌, eqb, leb, get_or, Result, Ok, Err}
 use Rattle.paper.specs.declared.Run.{Run}
-use Rattle.paper.specs.declared.Stepped.{Stepped}
-use Rattle.paper.specs.declared.Stepped.TheVariants.{Ran, NeedUnmet, Clashed}
+use Rattle.paper.specs.declared.Failure.{Failure}
+use Rattle.paper.specs.declared.Failure.TheVariants.{NeedUnmet, Clashed}
 use Rattle.paper.specs.Lists.{any, all, filter, up_from}
 use Rattle.paper.specs.Counting.{bit, all_below, some_below, mask_below}
 use Rattle.paper.specs.Sheet.{Need, Rule, Sheet, is_start, is_goal}
@@ -43,19 +43,19 @@ unfoldable pub applied : ℕ → List Rule → ℕ → ℕ
 applied F rs s = mask_below F (λ k. sets1 rs k || (untouched s k && not (sets0 rs k)))
 
 -- a step's answer: are the needs met, is there a clash, and the state if all is well
-abbrev pub stepped : Bool → Bool → ℕ → Stepped
-stepped false c t = NeedUnmet
-stepped true true t = Clashed
-stepped true false t = Ran t
+abbrev pub stepped : Bool → Bool → ℕ → Result ℕ Failure
+stepped false c t = Err NeedUnmet
+stepped true true t = Err Clashed
+stepped true false t = Ok t
 
 -- action a + 1 in state s
-unfoldable pub act : Sheet → ℕ → ℕ → Stepped
+unfoldable pub act : Sheet → ℕ → ℕ → Result ℕ Failure
 act p a s =
     stepped (meets p.F s (need_of p a).need1 (need_of p a).need0) (clash p.F (firing p (a + 1) s)) (applied p.F (firing p (a + 1) s) s)
 
 -- an entry of a schedule: actions are numbered from 1, and 0 is idle
-unfoldable pub step : Sheet → ℕ → ℕ → Stepped
-step p zero s = Ran s
+unfoldable pub step : Sheet → ℕ → ℕ → Result ℕ Failure
+step p zero s = Ok s
 step p (suc a) s = act p a s
 
 -- every entry of a schedule is 0..A
@@ -63,10 +63,10 @@ unfoldable pub entries_fit : Sheet → List ℕ → Bool
 entries_fit p σ = all (λ e. leb e p.A) σ
 
 -- a run goes on from the state that a step leads to; a step that fails ends it
-abbrev pub onward : Stepped → Run → (ℕ → Run) → Run
-onward (Ran t) f g = g t
-onward NeedUnmet f g = f
-onward Clashed f g = f
+abbrev pub onward : Result ℕ Failure → Run → (ℕ → Run) → Run
+onward (Ok t) f g = g t
+onward (Err NeedUnmet) f g = f
+onward (Err Clashed) f g = f
 
 unfoldable pub run_from : Sheet → ℕ → ℕ → List ℕ → Run
 run_from p d s [] = record { done = d; state = s; whole = true }

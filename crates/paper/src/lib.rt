@@ -73,10 +73,9 @@ pub enum Row {
     Choice(u32, u32, u32),
 }
 
-// What one step comes to.
-#[derive(Clone, Copy)]
-pub enum Stepped {
-    Ran(u16),
+// Why a step fails: its action's need is not met, or its rules set a fact to both values.
+#[derive(Clone, Copy, Debug, PartialEq, Eq)]
+pub enum Failure {
     NeedUnmet,
     Clashed,
 }

@@ -14,7 +14,9 @@ use lib.Pow.{pow_mono}
 use lib.ListN.{length, get_or, drop, drop_of_length-le}
 use lib.Seq.{drop-cons}
 use Rattle.paper.specs.declared.Run.{Run}
-use Rattle.paper.specs.declared.Stepped.TheVariants.{Ran, NeedUnmet, Clashed}
+use Rattle.std.specs.Prelude.{Ok, Err}
+use Rattle.paper.specs.declared.Failure.{Failure}
+use Rattle.paper.specs.declared.Failure.TheVariants.{NeedUnmet, Clashed}
 use Rattle.paper.specs.Lists.{any, filter, up_from}
 use Rattle.paper.specs.Counting.{bit, some_below, mask_below, overlap}
 use Rattle.paper.specs.Sheet.{Rule, Sheet, Fine, fits, good_pair, good_need, good_rule}
@@ -122,7 +124,7 @@ module _ (p : Sheet) (needs rules : List (List ℕ)) (n : ℕ) (w : Writes p nee
 
       module _ (lo : 1 ≤ a) where
         -- action a, once its needs are met
-        pub met_clashed : ones < 2 ^ 16 → meets p.F s (need_of p (a - 1)).need1 (need_of p (a - 1)).need0 ≡ true → (bit_and ones zeros ≡ 0 → ⊥) → Clashed ≡ act p (a - 1) s
+        pub met_clashed : ones < 2 ^ 16 → meets p.F s (need_of p (a - 1)).need1 (need_of p (a - 1)).need0 ≡ true → (bit_and ones zeros ≡ 0 → ⊥) → Err Clashed ≡ act p (a - 1) s
         unfolding act
         met_clashed room m e =
             let back : a - 1 + 1 ≡ a = omega arith in
@@ -130,12 +132,12 @@ module _ (p : Sheet) (needs rules : List (List ℕ)) (n : ℕ) (w : Writes p nee
             rw (m, back, x)
 
         pub met_ran : ones < 2 ^ 16 → meets p.F s (need_of p (a - 1)).need1 (need_of p (a - 1)).need0 ≡ true → bit_and ones zeros ≡ 0
-            → s < 2 ^ p.F → (t : ℕ) → t < 2 ^ 16 → ((k : ℕ) → k < 16 → bit t k ≡ (bit ones k || (bit s k && not (bit zeros k)))) → Ran t ≡ act p (a - 1) s
+            → s < 2 ^ p.F → (t : ℕ) → t < 2 ^ 16 → ((k : ℕ) → k < 16 → bit t k ≡ (bit ones k || (bit s k && not (bit zeros k)))) → Ok t ≡ act p (a - 1) s
         unfolding act
         met_ran room m e in-facts t room2 is =
             let back : a - 1 + 1 ≡ a = omega arith in
             let x : clash p.F (firing p a s) ≡ false = not-true (clash p.F (firing p a s)) (sym (clash_is room) ∙ eq-eqb (bit_and ones zeros) 0 e) in
-            rw (m, back, x) (ap Ran (next_is in-facts t room2 is))
+            rw (m, back, x) (ap Ok (next_is in-facts t room2 is))
 
   -- the test of the need that the code reads
   pub need_read : (i s : ℕ) (r : Bool) → i < p.A
@@ -144,7 +146,7 @@ module _ (p : Sheet) (needs rules : List (List ℕ)) (n : ℕ) (w : Writes p nee
   need_read i s r lt = rw (need_at_lem p needs rules n w i lt) (λ h. let f = need_in p w.fine i lt in h p.F f.0 f.1)
 
 -- an action whose need is not met
-pub unmet : (p : Sheet) (i s : ℕ) → meets p.F s (need_of p i).need1 (need_of p i).need0 ≡ false → NeedUnmet ≡ act p i s
+pub unmet : (p : Sheet) (i s : ℕ) → meets p.F s (need_of p i).need1 (need_of p i).need0 ≡ false → Err NeedUnmet ≡ act p i s
 unfolding act
 unmet p i s e = rw e
 
@@ -155,12 +157,12 @@ step_at p zero s lo = absurd (omega arith)
 step_at p (suc a) s lo = ap (λ (x : ℕ). act p x s) (omega arith)
 
 -- a step leads to a state
-stepped_ran : (m c : Bool) (u t : ℕ) → stepped m c u ≡ Ran t → u ≡ t
+stepped_ran : (m c : Bool) (u t : ℕ) → stepped m c u ≡ Ok t → u ≡ t
 stepped_ran false c u t e = let z : ◌≡◌ {A = ℕ} 0 1 = cc in absurd (omega arith)
 stepped_ran true true u t e = let z : ◌≡◌ {A = ℕ} 0 1 = cc in absurd (omega arith)
 stepped_ran true false u t e = cc
 
-pub step_fits : (p : Sheet) (e s t : ℕ) → s < 2 ^ p.F → step p e s ≡ Ran t → t < 2 ^ p.F
+pub step_fits : (p : Sheet) (e s t : ℕ) → s < 2 ^ p.F → step p e s ≡ Ok t → t < 2 ^ p.F
 unfolding step act applied
 step_fits p zero s t fit ran = let same : s ≡ t = cc in rw same at fit
 step_fits p (suc a) s t fit ran =
@@ -178,14 +180,12 @@ module _ (p : Sheet) (σ : List ℕ) (i s : ℕ) (w : Run) (left : run_from p i 
       subst (λ (m : ℕ). onward (step p (get_or σ i 0) s) (record { done = i; state = s; whole = false }) (λ t. run_from p (i + 1) t (drop m σ)) ≡ w)
       (sym (add-one i)) (rw (drop-cons σ i 0 lt) at left)
 
-  pub run_on : (t : ℕ) → i < length σ → step p (get_or σ i 0) s ≡ Ran t → run_from p (i + 1) t (drop (i + 1) σ) ≡ w
+  pub run_on : (t : ℕ) → i < length σ → step p (get_or σ i 0) s ≡ Ok t → run_from p (i + 1) t (drop (i + 1) σ) ≡ w
   run_on t lt e = rw e at (one_more lt)
 
-  pub run_unmet : i < length σ → step p (get_or σ i 0) s ≡ NeedUnmet → record { done = i; state = s; whole = false } ≡ w
-  run_unmet lt e = rw e at (one_more lt)
-
-  pub run_clashed : i < length σ → step p (get_or σ i 0) s ≡ Clashed → record { done = i; state = s; whole = false } ≡ w
-  run_clashed lt e = rw e at (one_more lt)
+  pub run_failed : (f : Failure) → i < length σ → step p (get_or σ i 0) s ≡ Err f → record { done = i; state = s; whole = false } ≡ w
+  run_failed NeedUnmet lt e = rw e at (one_more lt)
+  run_failed Clashed lt e = rw e at (one_more lt)
 
   pub run_end : length σ ≤ i → record { done = i; state = s; whole = true } ≡ w
   unfolding run_from

@@ -242,7 +242,7 @@ impl<'a> Parts<'a> {
 
     // How many facts there are.
     pub fn facts(self) -> usize
-        ensures { result ≡ (sheet_in self.entry).F }
+        ensures { (result ≡ (sheet_in self.entry).F) × (result ≤ 12) }
     {
         self.trailer.facts
     }

@@ -1,27 +1,17 @@
-use mathlib.Core.Path.{◌≡◌, refl, sym, ap, ◌∙◌}
+use mathlib.Core.Path.{refl, ◌∙◌}
+use mathlib.Core.Bool.{Bool, ◌&&◌}
 use Prim.Native.Nat.{ℕ}
-use native.Mathlib.Omega.{arith}
 use lib.Dec.{leb}
-use lib.ListN.{length, get_or}
-use borrow.Author.Tests.{le-leb}
-use Rattle.paper.specs.Counting.{all_below}
-use Rattle.bits.proofs.Below.{all_more}
-use Rattle.bits.proofs.Filled.{all_listed}
-use borrow.Author.Rules.{rules}
+use Rattle.std.proofs.Common.{rules, tests}
+use Rattle.std.proofs.lemmas.Iterator.{YieldsList-from_slice}
+use Rattle.std.proofs.lemmas.Iterator.Search.{all_from_yields_List}
+use Rattle.std.proofs.lemmas.List.Recursion.{same_from_clauses}
+use Rattle.std.specs.List.{list_all}
+use Rattle.paper.specs.Lists.{all}
 use Rattle.run.proofs.entries_fit.Goals as goal
 
-pub loop-i-init : goal.loop-i-init
-unfolding all_below
-loop-i-init c = (search rules, refl)
-
-pub loop-i-preserved : goal.loop-i-preserved
-loop-i-preserved c = let a = c.args in
-    let l = c.loop-i in
-    (search rules, all_more l.i (λ k. leb (get_or a.schedule.now k 0) a.a) ∙ rw (l.invariant.1, le-leb _ _ c.if-a-schedule.false))
-
 pub returns : goal.returns
-returns c = let a = c.args in
-    let l = c.loop-i in
-    let e : l.i ≡ length a.schedule.now = omega arith in
-    sym (all_listed (λ (e : ℕ). leb e a.a) 0 a.schedule.now
-    ∙ ap (λ (n : ℕ). all_below n (λ k. leb (get_or a.schedule.now k 0) a.a)) (sym e) ∙ l.invariant.1)
+returns c = let s = c.args.schedule.now in
+    let fits : ℕ → Bool = λ e. leb e c.args.a in
+    all_from_yields_List fits _ _ c.all.result c.all.ensures.ran (YieldsList-from_slice s cc) (λ x b q k. search (rules, tests))
+    ∙ same_from_clauses (list_all fits) (all fits) (λ e b. fits e && b) refl (λ _ _. refl) (λ _ _. refl) s
