@@ -9,8 +9,9 @@ ghost use Rattle.prefixes.specs.Words.{Starts};
 ghost use Rattle.plan.specs.Horizons as spec;
 
 use paper::{Built, Fault, Planned};
-use prefixes::Circuit;
+use prefixes::{Circuit, Prefix};
 use sheet::Sheet;
+use variables::Numbering;
 
 // A horizon that was tried: what compile answered, and what the search found in a whole circuit.
 #[derive(Clone, Copy)]
@@ -26,24 +27,27 @@ fn try_horizon(
     limit: u32,
     table: &mut [u8],
     starts: &[u64; 64],
-    values: &mut [u64],
+    values: &mut [u64; 65536],
 ) -> Tried
-    requires { (n ≤ 8) × Starts (contents sheet) starts.now × (length values.old ≡ 65536) }
+    requires { (n ≤ 8) × Starts (contents sheet) starts.now }
     ensures { spec.Tries (contents sheet.entry) limit table.old n result table.new }
 {
     let built = compile::compile_theory(sheet, n, table, limit);
     match built {
         Built::TooMuch | Built::NoRoom(_) => Tried { built, found: None },
         Built::Whole(_, count, root) => {
+            let numbers = Numbering {
+                trailer: sheet.parts.trailer,
+            };
             let circuit = Circuit {
-                sheet,
+                numbers,
                 steps: n,
                 table,
                 count,
                 root,
                 starts,
             };
-            let found = seek::seek(&circuit, values, [0u8; 8], 0, n);
+            let found = seek::seek(&circuit, values, Prefix::none(), n);
             Tried { built, found }
         }
     }

@@ -5,9 +5,7 @@ use mathlib.Core.List.{List, [], ◌∷◌, ◌++◌}
 use mathlib.Core.Option.{Option, none, some}
 use Prim.Native.Nat.{ℕ, suc, ◌+◌, ◌-◌, ◌<◌, ◌≤◌}
 use native.Mathlib.Omega.{arith}
-use native.Mathlib.Numerals.{add-one}
-use lib.ListN.{take, set, length}
-use lib.Seq.{take-suc-set}
+use lib.ListN.{take}
 use borrow.Author.Tests.{not-false}
 use Rattle.std.specs.Prelude.{Some, None, is_some}
 use Rattle.std.specs.Prelude as std
@@ -16,6 +14,8 @@ use Rattle.paper.specs.Operations.{Schedule, Test}
 use Rattle.paper.specs.Search.{tries, search}
 use Rattle.paper.proofs.Basic.{never, not_t}
 use Rattle.paper.proofs.SearchLoop.{search_shut, search_end, search_open, tries_on, tries_found}
+use Rattle.prefixes.specs.declared.Prefix.{Prefix}
+use Rattle.prefixes.specs.Circuits.{fixed_steps}
 use Rattle.seek.specs.Seeking.{entries_of, Says}
 
 abbrev pub next : Test → ℕ → ℕ → Schedule → ℕ → Option Schedule
@@ -55,29 +55,28 @@ module _ (test : Test) (A left : ℕ) (σ : Schedule) where
   pub passed : (r : Bool) → r ≡ test σ → not r ≡ false → test σ ≡ true
   passed r h k = sym h ∙ not-false r k
 
-pub ended : (test : Test) (A left at : ℕ) (entries : List ℕ) → test (take at entries) ≡ true → left ≡ 0 → Says test A left (take at entries) (some (take (at + left) entries))
-ended test A left at entries h k =
-    let x : at + left ≡ at = omega arith in
-    record { says = ap (λ n. some (take n entries)) x ∙ sym (search_end test A (take at entries) h) ∙ ap (λ n. search test test A n (take at entries)) (sym k) }
+-- no step is left
+pub ended : (test : Test) (A left : ℕ) (x : Prefix) → test (fixed_steps x) ≡ true → left ≡ 0 → Says test A left (fixed_steps x) (entries_of (x.len + left) (Some x.entries))
+ended test A left x h k =
+    let y : x.len + left ≡ x.len = omega arith in
+    record { says = ap (λ n. some (take n x.entries)) y ∙ sym (search_end test A (fixed_steps x) h) ∙ ap (λ n. search test test A n (fixed_steps x)) (sym k) }
 
 -- what the call for the entry e said, of the prefix with e behind it
-module _ (test : Test) (A left at e : ℕ) (entries : List ℕ) (r : std.Option (List ℕ)) (h : at < length entries) (k : 1 ≤ left) (l : e ≤ A) (m : Remains test A left (take at entries) e)
-    (q : Says test A (left - 1) (take (at + 1) (set entries at e)) (entries_of (at + 1 + (left - 1)) r)) where
-  said : entries_of (at + left) r ≡ next test A left (take at entries) e
-  said =
-      let x : at + left ≡ at + 1 + (left - 1) = omega arith in
-      ap (λ n. entries_of n r) x ∙ q.says ∙ ap (λ z. search test test A (left - 1) z) (ap (λ n. take n (set entries at e)) (add-one at) ∙ take-suc-set entries at e h)
+module _ (test : Test) (A left e : ℕ) (σ τ : Schedule) (n m : ℕ) (r : std.Option (List ℕ)) (l : e ≤ A) (z : Remains test A left σ e)
+    (h : τ ≡ σ ++ (e ∷ [])) (k : m ≡ n) (q : Says test A (left - 1) τ (entries_of m r)) where
+  said : entries_of n r ≡ next test A left σ e
+  said = ap (λ i. entries_of i r) (sym k) ∙ q.says ∙ ap (search test test A (left - 1)) h
 
-  pub turn_found : is_some r ≡ true → Says test A left (take at entries) (entries_of (at + left) r)
+  pub turn_found : is_some r ≡ true → Says test A left σ (entries_of n r)
   turn_found y = by_cases r refl
     where
-      by_cases : (x : std.Option (List ℕ)) → r ≡ x → Says test A left (take at entries) (entries_of (at + left) r)
-      by_cases (Some s) z = record { says = ap (entries_of (at + left)) z ∙ found test A left (take at entries) e m l (take (at + left) s) (ap (entries_of (at + left)) (sym z) ∙ said) }
-      by_cases None z = never y (ap is_some z)
+      by_cases : (x : std.Option (List ℕ)) → r ≡ x → Says test A left σ (entries_of n r)
+      by_cases (Some s) z' = record { says = ap (entries_of n) z' ∙ found test A left σ e z l (take n s) (ap (entries_of n) (sym z') ∙ said) }
+      by_cases None z' = never y (ap is_some z')
 
-  pub turn_on : is_some r ≡ false → Remains test A left (take at entries) (e + 1)
+  pub turn_on : is_some r ≡ false → Remains test A left σ (e + 1)
   turn_on y = by_cases r refl
     where
-      by_cases : (x : std.Option (List ℕ)) → r ≡ x → Remains test A left (take at entries) (e + 1)
-      by_cases (Some s) z = never (ap is_some z) y
-      by_cases None z = on test A left (take at entries) e m l (ap (entries_of (at + left)) (sym z) ∙ said)
+      by_cases : (x : std.Option (List ℕ)) → r ≡ x → Remains test A left σ (e + 1)
+      by_cases (Some s) z' = never (ap is_some z') y
+      by_cases None z' = on test A left σ e z l (ap (entries_of n) (sym z') ∙ said)

@@ -7,6 +7,8 @@ use Rattle.paper.specs.Circuit.{compile}
 use Rattle.paper.specs.Answers.{compile_rows}
 use Rattle.sheet.specs.Contents.{contents}
 use Rattle.variables.proofs.Laws.{sheet_counts}
+use Rattle.paper.specs.Search.{search}
+use Rattle.prefixes.specs.Circuits.{Of}
 use Rattle.seek.specs.Seeking.{entries_of}
 use Rattle.plan.proofs.Tables.{left_rows, left_first}
 use Rattle.plan.proofs.try_horizon.Goals as goal
@@ -16,7 +18,6 @@ invariant_of-circuit c = let s = c.args.sheet in
     let h = c.compile_theory-built in
     record {
       rows = left_rows (contents s) s.fine c.args.n c.requires.0 c.args.limit c.args.table.now _ h.result _ _ _ h.ensures.built h.ensures.rows c.in-Whole.is s.parts.trailer (sheet_counts s.parts.bytes.now s.parts.trailer) s.parts.whole.bounds;
-      started = c.requires.1;
     }
 
 pub returns-in-Whole : goal.returns-in-Whole
@@ -24,8 +25,11 @@ returns-in-Whole c = let a = c.args in
     let p = contents a.sheet in
     let h = c.compile_theory-built in
     let g = c.in-Whole.is in
+    let of : Of c.circuit p = record { counts = sheet_counts a.sheet.parts.bytes.now a.sheet.parts.trailer; starts = c.requires.1 } in
     record {
       built_is = sym g ∙ h.ensures.built;
       rows_are = h.ensures.rows ∙ ap (λ x. compile_rows (compile (theory p a.n)).table a.table.now (Ok x)) g;
-      found_is = λ e k i q. let z : a.n ≡ 0 + a.n = omega arith in ap (λ m. entries_of m c.seek-found.result) z ∙ left_first p a.sheet.fine a.n c.requires.0 a.limit a.table.now _ h.result _ _ _ h.ensures.built h.ensures.rows g p.A refl _ c.seek-found.ensures.says;
+      found_is = λ e k i q. let z : a.n ≡ c.none.result.len + a.n = omega (arith, c.none.ensures.empty) in
+          ap (λ m. entries_of m c.seek-found.result) z
+          ∙ left_first p a.sheet.fine a.n c.requires.0 a.limit a.table.now _ h.result _ _ _ h.ensures.built h.ensures.rows g p.A refl _ ((c.seek-found.ensures p of).says ∙ ap (search _ _ p.A a.n) c.none.ensures.none);
     }
