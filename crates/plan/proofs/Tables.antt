@@ -90,11 +90,11 @@ module _ (p : Sheet) (fine : Fine p) (n : ℕ) (h : n ≤ 8) (limit : ℕ) (T U 
   left_rows t c w = subst (λ X. Rows t n X k i) (sym left_filled) (whole_rows p fine n h limit T e k i (sym b ∙ q) t c w)
 
   -- the search in it finds the first plan
-  pub left_first : (A : ℕ) → p.A ≡ A → (o : Option Schedule) → o ≡ search (passes p n (table_of U k) i) (passes p n (table_of U k) i) A n [] → o ≡ first_plan p n
-  left_first A a o s =
+  pub left_first : (A : ℕ) → p.A ≡ A → (o : Option Schedule) (σ : Schedule) → σ ≡ [] → o ≡ search (passes p n (table_of U k) i) (passes p n (table_of U k) i) A n σ → o ≡ first_plan p n
+  left_first A a o σ z s =
       let w = answered limit (room T) (theory p n) e k i (sym b ∙ q) in
       let t : table_of U k ≡ (compile (theory p n)).table = ap (λ X. table_of X k) left_filled ∙ table_is p fine n h limit T e k i w in
-      s ∙ (λ j. search (passes p n (t j) (sym w.root_is j)) (passes p n (t j) (sym w.root_is j)) (sym a j) n []) ∙ search_plan p fine n
+      s ∙ (λ j. search (passes p n (t j) (sym w.root_is j)) (passes p n (t j) (sym w.root_is j)) (sym a j) n (z j)) ∙ search_plan p fine n
 
 -- ---- the schedule buffer: i entries of s are copied to the front of what was lent as S
 pub record Copied (S s Z : List ℕ) (i : ℕ) : Type 0 where

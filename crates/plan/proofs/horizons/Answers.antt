@@ -11,7 +11,7 @@ pub try_horizon-tried-requires : goal.try_horizon-tried-requires
 try_horizon-tried-requires c = let l = c.loop-n in
     let m = l.invariant.3.most in
     let w = c.args.sheet.parts.whole.bounds.horizon_most in
-    (omega arith, filled_starts (contents c.args.sheet) c.start_words-starts.result c.start_words-starts.ensures, l.invariant.0)
+    (omega arith, filled_starts (contents c.args.sheet) c.start_words-starts.result c.start_words-starts.ensures)
 
 pub returns-then-ends : goal.returns-then-ends
 returns-then-ends c = let a = c.args in
@@ -31,7 +31,7 @@ pub try_horizon-tried-requires-2 : goal.try_horizon-tried-requires-2
 try_horizon-tried-requires-2 c = let l = c.loop-n in
     let m = l.invariant.3.most in
     let w = c.args.sheet.parts.whole.bounds.horizon_most in
-    (omega arith, filled_starts (contents c.args.sheet) c.start_words-starts.result c.start_words-starts.ensures, l.invariant.0)
+    (omega arith, filled_starts (contents c.args.sheet) c.start_words-starts.result c.start_words-starts.ensures)
 
 pub returns : goal.returns
 returns c = let a = c.args in

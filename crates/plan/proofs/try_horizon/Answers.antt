@@ -1,5 +1,5 @@
 use Prim.Native.Nat.{◌+◌}
-use mathlib.Core.Path.{◌≡◌, refl, sym, ap, ◌∙◌}
+use mathlib.Core.Path.{◌≡◌, sym, ap, ◌∙◌}
 use native.Mathlib.Omega.{arith}
 use Rattle.std.specs.Prelude.{Ok}
 use Rattle.paper.specs.Clauses.{theory}
@@ -7,8 +7,6 @@ use Rattle.paper.specs.Circuit.{compile}
 use Rattle.paper.specs.Answers.{compile_rows}
 use Rattle.sheet.specs.Contents.{contents}
 use Rattle.variables.proofs.Laws.{sheet_counts}
-use Rattle.paper.specs.Search.{search}
-use Rattle.prefixes.specs.Circuits.{Of}
 use Rattle.seek.specs.Seeking.{entries_of}
 use Rattle.plan.proofs.Tables.{left_rows, left_first}
 use Rattle.plan.proofs.try_horizon.Goals as goal
@@ -25,11 +23,12 @@ returns-in-Whole c = let a = c.args in
     let p = contents a.sheet in
     let h = c.compile_theory-built in
     let g = c.in-Whole.is in
-    let of : Of c.circuit p = record { counts = sheet_counts a.sheet.parts.bytes.now a.sheet.parts.trailer; starts = c.requires.1 } in
+    let counts = sheet_counts a.sheet.parts.bytes.now a.sheet.parts.trailer in
     record {
       built_is = sym g ∙ h.ensures.built;
       rows_are = h.ensures.rows ∙ ap (λ x. compile_rows (compile (theory p a.n)).table a.table.now (Ok x)) g;
       found_is = λ e k i q. let z : a.n ≡ c.none.result.len + a.n = omega (arith, c.none.ensures.empty) in
           ap (λ m. entries_of m c.seek-found.result) z
-          ∙ left_first p a.sheet.fine a.n c.requires.0 a.limit a.table.now _ h.result _ _ _ h.ensures.built h.ensures.rows g p.A refl _ ((c.seek-found.ensures p of).says ∙ ap (search _ _ p.A a.n) c.none.ensures.none);
+          ∙ left_first p a.sheet.fine a.n c.requires.0 a.limit a.table.now _ h.result _ _ _ h.ensures.built h.ensures.rows g _ counts.actions_are _ _ c.none.ensures.none
+          (c.seek-found.ensures p (record { counts = counts; starts = c.requires.1 })).says;
     }
