@@ -1,6 +1,6 @@
 -- Laws of the clause maker: one literal, one end, one part after the other. Assumes nothing.
 use mathlib.Core.Path.{◌≡◌, refl, sym, ap, ◌∙◌, subst}
-use mathlib.Core.Bool.{Bool, true, false, not, cond}
+use mathlib.Core.Bool.{Bool, true, false, cond}
 use mathlib.Core.List.{List, [], ◌∷◌, ◌++◌, map, append-nil, append_assoc, map-append}
 use Prim.Native.Nat.{ℕ, ◌+◌, ◌*◌, ◌≤◌, ◌<◌}
 use native.Mathlib.Numerals.{add-one}
@@ -9,12 +9,12 @@ use lib.ListN.{drop, length, take, set, length-append, length-set}
 use lib.Seq.{take-suc-set, drop-set-lt}
 use Rattle.paper.specs.declared.Lit.{Lit}
 use Rattle.paper.specs.declared.Moment.{Moment}
-use Rattle.paper.specs.Lists.{only, each, up_from, filter}
+use Rattle.paper.specs.Lists.{only, each, filter}
 use Rattle.paper.specs.Counting.{bit}
 use Rattle.paper.specs.Sheet.{Sheet}
 use Rattle.paper.specs.Clauses.{Clause, Clauses, yes·, no·, neg, fact, facts, literals}
 use Rattle.paper.specs.Circuit.{lits}
-use Rattle.bits.proofs.Upward.{each_last, each_more}
+use Rattle.bits.proofs.Upward.{each_last}
 use Rattle.bits.proofs.Agree.{drop_later}
 use Rattle.theory.specs.declared.Filled.{Filled}
 use Rattle.theory.specs.Flat.{Fit, Stored, code_of, codes, ends_from}
@@ -201,13 +201,6 @@ adds_clause {c} {L} {M} {E} {G} {m} {k} {o} f g =
       ends_behind = g.ends_behind;
     }
 
--- a loop's next turn
-pub pushes_more : (n : ℕ) (f : ℕ → Clause) {L M N : List ℕ} {m k o : Filled} → Pushes (each (up_from 0 n) f) L M m k → Pushes (f n) M N k o → Pushes (each (up_from 0 (n + 1)) f) L N m o
-pushes_more n f {L} {N = N} {m} {o = o} a b = subst (λ c. Pushes c L N m o) (sym (each_more f n)) (pushes_then a b)
-
-pub adds_more : (n : ℕ) (f : ℕ → Clauses) {L M N E G H : List ℕ} {m k o : Filled} → Adds (each (up_from 0 n) f) L M E G m k → Adds (f n) M N G H k o → Adds (each (up_from 0 (n + 1)) f) L N E H m o
-adds_more n f {L} {N = N} {E} {H = H} {m} {o = o} a b = subst (λ D. Adds D L N E H m o) (sym (each_more f n)) (adds_then a b)
-
 -- ---- literals as numbers
 pub code_yes : (x : ℕ) (s : Bool) → s ≡ true → 2 * x ≡ code_of (lit x s)
 code_yes x s h = rw h (omega arith)
@@ -215,53 +208,12 @@ code_yes x s h = rw h (omega arith)
 pub code_no : (x : ℕ) (s : Bool) → s ≡ false → 2 * x + 1 ≡ code_of (lit x s)
 code_no x s h = rw h (omega arith)
 
--- ---- wanted or not
-pub pushes_wanted : {L M : List ℕ} {m k : Filled} (b : Bool) (l : Lit) → b ≡ true → Pushes (l ∷ []) L M m k → Pushes (only b l) L M m k
-unfolding only
-pushes_wanted b l e h = rw e h
-
-pub pushes_unwanted : {L : List ℕ} {m : Filled} (b : Bool) (l : Lit) → b ≡ false → Pushes (only b l) L L m m
-unfolding only
-pushes_unwanted b l e = rw e pushes_none
-
-pub adds_wanted : {L M E G : List ℕ} {m k : Filled} (b : Bool) (c : Clause) → b ≡ true → Adds (c ∷ []) L M E G m k → Adds (only b c) L M E G m k
-unfolding only
-adds_wanted b c e h = rw e h
-
-pub adds_unwanted : {L E : List ℕ} {m : Filled} (b : Bool) (c : Clause) → b ≡ false → Adds (only b c) L L E E m m
-unfolding only
-adds_unwanted b c e = rw e adds_none
-
--- ---- a fact's literals, by variables and tests that are those of the definitions
-pub pushes_fact : (p : Sheet) (n : ℕ) (sign : Bool) (t : Moment) (one nil k x : ℕ) (a b : Bool) {L M N : List ℕ} {m r o : Filled} → x ≡ fact p n t k → a ≡ bit one k → b ≡ bit nil k
-    → Pushes (only a (lit x sign)) L M m r → Pushes (only b (lit x (not sign))) M N r o → Pushes (fact_as p n sign t one nil k) L N m o
-pushes_fact p n sign t one nil k x a b {L} {N = N} {m} {o = o} ex ea eb f g =
-    subst (λ c. Pushes c L N m o) (λ i. only (ea i) (lit (ex i) sign) ++ only (eb i) (lit (ex i) (not sign))) (pushes_then f g)
-
-map_only : {A B : Type 0} (f : A → B) (b : Bool) (x : A) → map f (only b x) ≡ only b (f x)
+-- ---- the definitions' parts as lists of lists
+pub map_only : {A B : Type 0} (f : A → B) (b : Bool) (x : A) → map f (only b x) ≡ only b (f x)
 unfolding only
 map_only f true x = refl
 map_only f false x = refl
 
-pub adds_fact : (p : Sheet) (n : ℕ) (t : Moment) (one nil k x y : ℕ) (ahead a b : Bool) {L M N E G H : List ℕ} {m r o : Filled} → y ≡ fact p n t k → a ≡ bit one k → b ≡ bit nil k
-    → Adds (only a (besides ahead x (lit y true))) L M E G m r → Adds (only b (besides ahead x (lit y false))) M N G H r o → Adds (map (besides ahead x) (fact_as p n true t one nil k)) L N E H m o
-adds_fact p n t one nil k x y ahead a b {L} {N = N} {E} {H = H} {m} {o = o} ey ea eb f g =
-    subst (λ D. Adds D L N E H m o)
-    ((λ i. only (ea i) (besides ahead x (lit (ey i) true)) ++ only (eb i) (besides ahead x (lit (ey i) false)))
-    ∙ sym (map-append (besides ahead x) (only (bit one k) (lit (fact p n t k) true)) (only (bit nil k) (lit (fact p n t k) false))
-    ∙ (λ i. map_only (besides ahead x) (bit one k) (lit (fact p n t k) true) i ++ map_only (besides ahead x) (bit nil k) (lit (fact p n t k) false) i)))
-    (adds_then f g)
-
--- ---- a loop's end
-module _ (n k a : ℕ) (f : ℕ → Clause) {L N : List ℕ} {m o : Filled} (e : a ≡ n) (h : k ≤ n) (d : n ≤ k) where
-  pub pushes_all : Pushes (each (up_from 0 k) f) L N m o → Pushes (each (up_from 0 a) f) L N m o
-  pushes_all g = let q : k ≡ a = omega arith in subst (λ (j : ℕ). Pushes (each (up_from 0 j) f) L N m o) q g
-
-module _ (n k a : ℕ) (f : ℕ → Clauses) {L N E H : List ℕ} {m o : Filled} (e : a ≡ n) (h : k ≤ n) (d : n ≤ k) where
-  pub adds_all : Adds (each (up_from 0 k) f) L N E H m o → Adds (each (up_from 0 a) f) L N E H m o
-  adds_all g = let q : k ≡ a = omega arith in subst (λ (j : ℕ). Adds (each (up_from 0 j) f) L N E H m o) q g
-
--- ---- the definitions' parts as lists of lists
 map_each : {A B C : Type 0} (g : B → C) (xs : List A) (f : A → List B) → map g (each xs f) ≡ each xs (λ x. map g (f x))
 unfolding each
 map_each g [] f = refl
@@ -289,15 +241,6 @@ module _ (p : Sheet) (n : ℕ) (t : Moment) (one nil : ℕ) where
       map-append neg (only (bit one k) (yes· (fact p n t k))) (only (bit nil k) (no· (fact p n t k)))
       ∙ (λ i. map_only neg (bit one k) (yes· (fact p n t k)) i ++ map_only neg (bit nil k) (no· (fact p n t k)) i)))
 
-  pub besides_each : (ahead : Bool) (x : ℕ) → map (besides ahead x) (literals p n t one nil) ≡ each (facts p n) (λ k. map (besides ahead x) (fact_as p n true t one nil k))
+  pub besides_each : (ahead : Bool) (x : Lit) → map (besides ahead x) (literals p n t one nil) ≡ each (facts p n) (λ k. map (besides ahead x) (fact_as p n true t one nil k))
   unfolding literals
   besides_each ahead x = map_each (besides ahead x) (facts p n) (fact_as p n true t one nil)
-
--- ---- a loop's start
-pub pushes_start : (f : ℕ → Clause) {L : List ℕ} {m : Filled} → Pushes (each (up_from 0 0) f) L L m m
-unfolding each up_from
-pushes_start f = pushes_none
-
-pub adds_start : (f : ℕ → Clauses) {L E : List ℕ} {m : Filled} → Adds (each (up_from 0 0) f) L L E E m m
-unfolding each up_from
-adds_start f = adds_none

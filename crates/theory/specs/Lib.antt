@@ -1,2 +1,3 @@
 pub mod Flat
 pub mod Making
+pub mod Building

@@ -1,12 +1,13 @@
 -- What a part of the clause maker adds to the arrays. What finds no place is left out, and then nothing is said.
 -- Assumes nothing.
-use Rattle.std.specs.Prelude.{◌≡◌, Bool, true, false, not, ◌&&◌, List, [], ◌∷◌, ◌++◌, map, ℕ, ◌-◌, ◌≤◌, ◌<◌, ltb, get_or, drop}
+use Rattle.std.specs.Prelude.{◌≡◌, Bool, true, false, not, ◌&&◌, List, [], ◌∷◌, ◌++◌, map, ℕ, ◌-◌, ◌≤◌, ltb, drop}
 use Rattle.paper.specs.declared.Lit.{Lit}
 use Rattle.paper.specs.declared.Moment.{Moment}
 use Rattle.paper.specs.declared.Step.{Step}
 use Rattle.paper.specs.Lists.{filter, only, each, up_from}
 use Rattle.paper.specs.Counting.{bit, before, after}
-use Rattle.paper.specs.Sheet.{Sheet}
+use Rattle.paper.specs.Sheet.{Sheet, Rule}
+use Rattle.paper.specs.Step.{need_of, rule_of}
 use Rattle.paper.specs.Clauses.{Clause, Clauses, yes·, no·, neg, fact, action, z, facts, actions, rule_nos, literals, step_clauses, every_pair}
 use Rattle.theory.specs.declared.Filled.{Filled}
 use Rattle.theory.specs.Flat.{Stored, Fit}
@@ -48,17 +49,34 @@ fact_as p n sign t one nil k = only (bit one k) (lit (fact p n t k) sign) ++ onl
 unfoldable pub literals_as : Sheet → ℕ → Bool → Moment → ℕ → ℕ → Clause
 literals_as p n sign t one nil = each (facts p n) (fact_as p n sign t one nil)
 
--- a literal and the opposite of the variable x, which stands ahead or behind
-abbrev pub besides : Bool → ℕ → Lit → Clause
-besides true x l = no· x ∷ (l ∷ [])
-besides false x l = l ∷ (no· x ∷ [])
+-- a literal and another one, which stands ahead or behind
+abbrev pub besides : Bool → Lit → Lit → Clause
+besides true x l = x ∷ (l ∷ [])
+besides false x l = l ∷ (x ∷ [])
 
--- the clauses of one rule's z, of one action's exclusions, of one fact's frames, of all steps
+-- the facts that a rule sets to this value
+abbrev pub set_to : Bool → Rule → ℕ
+set_to true r = r.set1
+set_to false r = r.set0
+
+-- the clauses of one action's needs, of one rule's z and effects, of one action's exclusions, of one fact's frames, of all steps
+abbrev pub need_part : Sheet → ℕ → Step → ℕ → Clauses
+need_part p n t a = map (besides false (no· (action p n t a))) (literals p n (before t) (need_of p a).need1 (need_of p a).need0)
+
 abbrev pub z_of : Sheet → ℕ → Step → ℕ → ℕ → ℕ → ℕ → Clauses
 z_of p n t r a one nil =
     (yes· (action p n t (a - 1)) ∷ (no· (z p n t r) ∷ []))
-    ∷ (map (besides false (z p n t r)) (literals p n (before t) one nil)
+    ∷ (map (besides false (no· (z p n t r))) (literals p n (before t) one nil)
     ++ ((map neg (literals p n (before t) one nil) ++ (no· (action p n t (a - 1)) ∷ (yes· (z p n t r) ∷ []))) ∷ []))
+
+abbrev pub z_part : Sheet → ℕ → Step → ℕ → Clauses
+z_part p n t r = z_of p n t r (rule_of p r).action (rule_of p r).cond1 (rule_of p r).cond0
+
+abbrev pub effect_part : Sheet → ℕ → Step → ℕ → Clauses
+effect_part p n t r = map (besides true (no· (z p n t r))) (literals p n (after t) (rule_of p r).set1 (rule_of p r).set0)
+
+abbrev pub exclusion_part : Sheet → ℕ → Step → ℕ → ℕ → Clauses
+exclusion_part p n t a b = only (ltb a b && every_pair a b) (no· (action p n t a) ∷ (no· (action p n t b) ∷ []))
 
 abbrev pub exclusions_of : Sheet → ℕ → Step → ℕ → Clauses
 exclusions_of p n t a = map (λ b. no· (action p n t a) ∷ (no· (action p n t b) ∷ [])) (filter (λ b. ltb a b && every_pair a b) (actions p n))
@@ -69,10 +87,8 @@ setters p n t mask k = map (λ r. yes· (z p n t r)) (filter (λ r. bit (mask r)
 abbrev pub frame_of : Sheet → ℕ → Step → (ℕ → ℕ) → Bool → ℕ → Clause
 frame_of p n t mask sign k = (lit (fact p n (before t) k) sign ∷ setters p n t mask k) ++ (lit (fact p n (after t) k) (not sign) ∷ [])
 
+abbrev pub frame_part : Sheet → ℕ → Step → ℕ → Clauses
+frame_part p n t k = frame_of p n t (λ r. (rule_of p r).set0) false k ∷ (frame_of p n t (λ r. (rule_of p r).set1) true k ∷ [])
+
 abbrev pub steps_of : Sheet → ℕ → Clauses
 steps_of p n = each (up_from 0 n) (λ i. step_clauses p n every_pair (record { 0 = i }))
-
--- every rule's action is 1..12
-pub record Actions (rules : List (List ℕ)) (n : ℕ) : Type 0 where
-  pub least : (j : ℕ) → j < n → 1 ≤ get_or (get_or rules j []) 0 0
-  pub most : (j : ℕ) → j < n → get_or (get_or rules j []) 0 0 ≤ 12

@@ -1,13 +1,14 @@
-// The clause maker: T(P) of a sheet at a horizon, in the order of request E2, literals by variable, in two flat arrays.
+// The clause maker: T(P) of a sheet at a horizon, the start clauses first, then the goal clauses, then step by step, literals by variable, in two flat
+// arrays.
 #![tactic(auto)]
 
-ghost use Rattle.std.specs.Prelude.{◌≡◌, true, false, not, ◌&&◌, List, [], ◌∷◌, ◌++◌, map, ℕ, ◌+◌, ◌-◌, ◌*◌, ◌≤◌, ◌<◌, ltb, length, get_or, drop};
+ghost use Rattle.std.specs.Prelude.{◌≡◌, true, false, not, ◌&&◌, [], ◌∷◌, ◌++◌, map, ℕ, ◌+◌, ◌*◌, ◌≤◌, ◌<◌, ltb, length, drop};
 ghost use Rattle.paper.specs.Lists.{only};
 ghost use Rattle.paper.specs.Counting.{bit, before, after};
 ghost use Rattle.paper.specs.Sheet as paper;
 ghost use Rattle.paper.specs.Clauses as clauses;
 ghost use Rattle.sheet.specs.Contents.{contents};
-ghost use Rattle.sheet.specs.Writes.{Writes};
+ghost use Rattle.sheet.specs.Reading.{fives, pairs_of, fives_of};
 ghost use Rattle.theory.specs.Flat.{code_of, Stored};
 ghost use Rattle.theory.specs.Making as spec;
 
@@ -22,371 +23,72 @@ pub struct Filled {
     pub clauses: u16,
 }
 
-// A literal as a number.
-fn code(x: u16, sign: bool) -> u16
-    requires { x ≤ 432 }
-    ensures { result ≡ code_of (spec.lit x sign) }
-{
-    if sign { 2 * x } else { 2 * x + 1 }
-}
-
-// One literal more in the clause that is not ended yet.
-fn push(literals: &mut [u16], m: Filled, x: u16, sign: bool) -> Filled
-    requires { x ≤ 432 }
-    ensures { spec.Pushes (spec.lit x sign ∷ []) literals.old literals.new m result }
-{
-    let at = m.literals as usize;
-    if literals.len() <= at {
-        return m;
-    }
-    if at == 65535 {
-        return m;
-    }
-    literals[at] = code(x, sign);
-    Filled {
-        literals: m.literals + 1,
-        clauses: m.clauses,
-    }
-}
-
-// A literal more where it is wanted.
-fn push_if(literals: &mut [u16], m: Filled, wanted: bool, x: u16, sign: bool) -> Filled
-    requires { x ≤ 432 }
-    ensures { spec.Pushes (only wanted (spec.lit x sign)) literals.old literals.new m result }
-{
-    if wanted {
-        return push(literals, m, x, sign);
-    }
-    m
-}
-
-// The clause ends here.
-fn end(ends: &mut [u16], m: Filled) -> Filled
-    ensures { spec.Ends ends.old ends.new m result }
-{
-    let at = m.clauses as usize;
-    if ends.len() <= at {
-        return m;
-    }
-    if at == 65535 {
-        return m;
-    }
-    ends[at] = m.literals;
-    Filled {
-        literals: m.literals,
-        clauses: m.clauses + 1,
-    }
-}
-
-// A clause of two literals.
-fn pair(
-    literals: &mut [u16],
-    ends: &mut [u16],
-    m: Filled,
-    x: u16,
-    p: bool,
-    y: u16,
-    q: bool,
-) -> Filled
-    requires { (x ≤ 432) × (y ≤ 432) }
-    ensures { spec.Adds ((spec.lit x p ∷ (spec.lit y q ∷ [])) ∷ []) literals.old literals.new ends.old ends.new m result }
-{
-    let one = push(literals, m, x, p);
-    let two = push(literals, one, y, q);
-    end(ends, two)
-}
-
-// The literals that fact k has in two masks at a moment.
-fn push_fact(
-    literals: &mut [u16],
-    m: Filled,
-    sheet: Sheet,
-    moment: Moment,
-    one: u16,
-    nil: u16,
+// A variable or its opposite. There are 48 variables a step at most, and at most eight steps and a moment.
+#[derive(Clone, Copy)]
+struct Literal {
+    var: u16,
     sign: bool,
-    k: usize,
-) -> Filled
-    requires { (moment.0 ≤ 8) × (k < 12) }
-    ensures { (n : ℕ) → spec.Pushes (spec.fact_as (contents sheet.entry) n sign moment one nil k) literals.old literals.new m result }
-{
-    let x = Numbering {
-        trailer: sheet.parts.trailer,
-    }
-    .fact(moment, k);
-    let first = push_if(literals, m, bits::bit(one, k), x, sign);
-    push_if(literals, first, bits::bit(nil, k), x, !sign)
+    ghost small: { var ≤ 432 },
 }
 
-// The literals of two masks at a moment, by fact, those of the first with this sign, those of the second with the other.
-fn push_facts(
-    literals: &mut [u16],
-    m: Filled,
-    sheet: Sheet,
-    moment: Moment,
+// Two masks of facts: those that are 1, and those that are 0.
+#[derive(Clone, Copy)]
+struct Masks {
     one: u16,
     nil: u16,
-    sign: bool,
-) -> Filled
-    requires { (moment.0 ≤ 8) }
-    ensures { (n : ℕ) → spec.Pushes (spec.literals_as (contents sheet.entry) n sign moment one nil) literals.old literals.new m result }
-{
-    let facts = sheet.parts.trailer.facts;
-    let mut so = m;
-    for k in 0..facts {
-        so = push_fact(literals, so, sheet, moment, one, nil, sign, k);
-    }
-    so
 }
 
-// A clause of a fact's literal and the opposite of x, which stands ahead or behind.
-fn pair_fact(
-    literals: &mut [u16],
-    ends: &mut [u16],
-    m: Filled,
-    y: u16,
-    sign: bool,
-    x: u16,
-    ahead: bool,
-) -> Filled
-    requires { (y ≤ 432) × (x ≤ 432) }
-    ensures { spec.Adds (spec.besides ahead x (spec.lit y sign) ∷ []) literals.old literals.new ends.old ends.new m result }
-{
-    if ahead {
-        return pair(literals, ends, m, x, false, y, sign);
-    }
-    pair(literals, ends, m, y, sign, x, false)
-}
-
-// Such a clause where it is wanted.
-fn pair_fact_if(
-    literals: &mut [u16],
-    ends: &mut [u16],
-    m: Filled,
-    wanted: bool,
-    y: u16,
-    sign: bool,
-    x: u16,
-    ahead: bool,
-) -> Filled
-    requires { (y ≤ 432) × (x ≤ 432) }
-    ensures { spec.Adds (only wanted (spec.besides ahead x (spec.lit y sign))) literals.old literals.new ends.old ends.new m result }
-{
-    if wanted {
-        return pair_fact(literals, ends, m, y, sign, x, ahead);
-    }
-    m
-}
-
-// The clauses of x and the literals that fact k has in two masks.
-fn pair_facts_at(
-    literals: &mut [u16],
-    ends: &mut [u16],
-    m: Filled,
-    sheet: Sheet,
-    moment: Moment,
-    one: u16,
-    nil: u16,
-    x: u16,
-    ahead: bool,
-    k: usize,
-) -> Filled
-    requires { (moment.0 ≤ 8) × (k < 12) × (x ≤ 432) }
-    ensures { (n : ℕ) → spec.Adds (map (spec.besides ahead x) (spec.fact_as (contents sheet.entry) n true moment one nil k)) literals.old literals.new ends.old ends.new m result }
-{
-    let y = Numbering {
-        trailer: sheet.parts.trailer,
-    }
-    .fact(moment, k);
-    let first = pair_fact_if(literals, ends, m, bits::bit(one, k), y, true, x, ahead);
-    pair_fact_if(literals, ends, first, bits::bit(nil, k), y, false, x, ahead)
-}
-
-// A clause of the opposite of x with each literal of two masks at a moment.
-fn pair_facts(
-    literals: &mut [u16],
-    ends: &mut [u16],
-    m: Filled,
-    sheet: Sheet,
-    moment: Moment,
-    one: u16,
-    nil: u16,
-    x: u16,
-    ahead: bool,
-) -> Filled
-    requires { (moment.0 ≤ 8) × (x ≤ 432) }
-    ensures { (n : ℕ) → spec.Adds (map (spec.besides ahead x) (clauses.literals (contents sheet.entry) n moment one nil)) literals.old literals.new ends.old ends.new m result }
-{
-    let facts = sheet.parts.trailer.facts;
-    let mut so = m;
-    for k in 0..facts {
-        so = pair_facts_at(literals, ends, so, sheet, moment, one, nil, x, ahead, k);
-    }
-    so
-}
-
-// Action a's step needs its precondition.
-fn need_clauses(
-    literals: &mut [u16],
-    ends: &mut [u16],
-    m: Filled,
-    sheet: Sheet,
-    step: Step,
-    a: usize,
-    one: u16,
-    nil: u16,
-) -> Filled
-    requires { (step.0 < 8) × (a < 12) }
-    ensures { (n : ℕ) → spec.Adds (map (spec.besides false (clauses.action (contents sheet.entry) n step a)) (clauses.literals (contents sheet.entry) n (before step) one nil)) literals.old literals.new ends.old ends.new m result }
-{
-    let x = Numbering {
-        trailer: sheet.parts.trailer,
-    }
-    .action(step, a);
-    pair_facts(literals, ends, m, sheet, step.before(), one, nil, x, false)
-}
-
-// What every action needs.
-fn needs_of_step(
-    literals: &mut [u16],
-    ends: &mut [u16],
-    m: Filled,
-    sheet: Sheet,
+// What the clause maker works on: the two arrays that are lent to it, how much of them is filled, the sheet, and its needs and rules decoded.
+#[derive(Drop)]
+struct Builder<'a, 'b> {
+    literals: &'a mut [u16],
+    ends: &'a mut [u16],
+    made: Filled,
+    sheet: Sheet<'b>,
     needs: [[u16; 2]; 12],
-    step: Step,
-) -> Filled
-    requires { (step.0 < 8) }
-    ensures { (n : ℕ) (rules : List (List ℕ)) → Writes (contents sheet.entry) needs rules sheet.entry.parts.trailer.rules → spec.Adds (clauses.need_clauses (contents sheet.entry) n step) literals.old literals.new ends.old ends.new m result }
-{
-    let actions = sheet.parts.trailer.actions;
-    let mut so = m;
-    for a in 0..actions {
-        let need = needs[a];
-        so = need_clauses(literals, ends, so, sheet, step, a, need[0], need[1]);
-    }
-    so
-}
-
-// The conditions and the action of a rule bring its z.
-fn z_follows(
-    literals: &mut [u16],
-    ends: &mut [u16],
-    m: Filled,
-    sheet: Sheet,
-    moment: Moment,
-    one: u16,
-    nil: u16,
-    a: u16,
-    z: u16,
-) -> Filled
-    requires { (moment.0 ≤ 8) × (a ≤ 432) × (z ≤ 432) }
-    ensures { (n : ℕ) → spec.Adds ((map clauses.neg (clauses.literals (contents sheet.entry) n moment one nil) ++ (clauses.no· a ∷ (clauses.yes· z ∷ []))) ∷ []) literals.old literals.new ends.old ends.new m result }
-{
-    let conditions = push_facts(literals, m, sheet, moment, one, nil, false);
-    let action = push(literals, conditions, a, false);
-    let all = push(literals, action, z, true);
-    end(ends, all)
-}
-
-// The z of rule j is equivalent to its action and conditions.
-fn z_clauses(
-    literals: &mut [u16],
-    ends: &mut [u16],
-    m: Filled,
-    sheet: Sheet,
-    step: Step,
-    j: usize,
-    rule: [u16; 5],
-) -> Filled
-    requires { (step.0 < 8) × (j < 24) × (1 ≤ get_or rule 0 0) × (get_or rule 0 0 ≤ 12) }
-    ensures { (n : ℕ) → spec.Adds (spec.z_of (contents sheet.entry) n step j (get_or rule 0 0) (get_or rule 1 0) (get_or rule 2 0)) literals.old literals.new ends.old ends.new m result }
-{
-    let number = rule[0] as usize;
-    let a = Numbering {
-        trailer: sheet.parts.trailer,
-    }
-    .action(step, number - 1);
-    let z = Numbering {
-        trailer: sheet.parts.trailer,
-    }
-    .z(step, j);
-    let one = rule[1];
-    let nil = rule[2];
-    let first = pair(literals, ends, m, a, true, z, false);
-    let second = pair_facts(
-        literals,
-        ends,
-        first,
-        sheet,
-        step.before(),
-        one,
-        nil,
-        z,
-        false,
-    );
-    z_follows(literals, ends, second, sheet, step.before(), one, nil, a, z)
-}
-
-// The clauses of every rule's z.
-fn z_of_step(
-    literals: &mut [u16],
-    ends: &mut [u16],
-    m: Filled,
-    sheet: Sheet,
     rules: [[u16; 5]; 24],
-    step: Step,
-) -> Filled
-    requires { (step.0 < 8) × spec.Actions rules sheet.parts.trailer.rules }
-    ensures { (n : ℕ) (needs : List (List ℕ)) → Writes (contents sheet.entry) needs rules sheet.entry.parts.trailer.rules → spec.Adds (clauses.z_clauses (contents sheet.entry) n step) literals.old literals.new ends.old ends.new m result }
-{
-    let count = sheet.parts.trailer.rules;
-    let mut so = m;
-    for j in 0..count {
-        so = z_clauses(literals, ends, so, sheet, step, j, rules[j]);
-    }
-    so
+    ghost needs_are: { needs ≡ pairs_of (contents sheet) },
+    ghost rules_are: { rules ≡ fives_of (contents sheet) },
 }
 
-// What rule j sets where its z holds.
-fn effect_clauses(
-    literals: &mut [u16],
-    ends: &mut [u16],
-    m: Filled,
-    sheet: Sheet,
-    step: Step,
-    j: usize,
-    one: u16,
-    nil: u16,
-) -> Filled
-    requires { (step.0 < 8) × (j < 24) }
-    ensures { (n : ℕ) → spec.Adds (map (spec.besides true (clauses.z (contents sheet.entry) n step j)) (clauses.literals (contents sheet.entry) n (after step) one nil)) literals.old literals.new ends.old ends.new m result }
-{
-    let x = Numbering {
-        trailer: sheet.parts.trailer,
+impl Literal {
+    ghost use Rattle.theory.specs.Building.{as_lit};
+
+    // As a number.
+    fn code(self) -> u16
+        ensures { result ≡ code_of (as_lit self) }
+    {
+        if self.sign {
+            2 * self.var
+        } else {
+            2 * self.var + 1
+        }
     }
-    .z(step, j);
-    pair_facts(literals, ends, m, sheet, step.after(), one, nil, x, true)
+
+    // The opposite.
+    fn opposite(self) -> Literal
+        ensures { as_lit result ≡ clauses.neg (as_lit self) }
+    {
+        Literal {
+            var: self.var,
+            sign: !self.sign,
+        }
+    }
 }
 
-// What every rule sets.
-fn effects_of_step(
-    literals: &mut [u16],
-    ends: &mut [u16],
-    m: Filled,
-    sheet: Sheet,
-    rules: [[u16; 5]; 24],
-    step: Step,
-) -> Filled
-    requires { (step.0 < 8) }
-    ensures { (n : ℕ) (needs : List (List ℕ)) → Writes (contents sheet.entry) needs rules sheet.entry.parts.trailer.rules → spec.Adds (clauses.effect_clauses (contents sheet.entry) n step) literals.old literals.new ends.old ends.new m result }
-{
-    let count = sheet.parts.trailer.rules;
-    let mut so = m;
-    for j in 0..count {
-        let rule = rules[j];
-        so = effect_clauses(literals, ends, so, sheet, step, j, rule[3], rule[4]);
+impl Masks {
+    ghost use Rattle.theory.specs.Building.{as_masks};
+
+    // The masks of a clause of a sheet.
+    fn read(bytes: &[u8], at: usize) -> Masks
+        requires { at + 4 ≤ length bytes.now }
+        ensures { as_masks result ≡ paper.masks_at bytes.now at }
+    {
+        Masks {
+            one: bits::word(bytes, at),
+            nil: bits::word(bytes, at + 2),
+        }
     }
-    so
 }
 
 // Actions a and b, named in this order, exclude each other: every pair of different actions does.
@@ -396,264 +98,409 @@ fn excludes(a: usize, b: usize) -> bool
     a < b
 }
 
-// Of two actions that exclude each other at most one is chosen.
-fn exclusion(
-    literals: &mut [u16],
-    ends: &mut [u16],
-    m: Filled,
-    sheet: Sheet,
-    step: Step,
-    a: usize,
-    b: usize,
-) -> Filled
-    requires { (step.0 < 8) × (a < 12) × (b < 12) }
-    ensures { (n : ℕ) → spec.Adds (only (ltb a b && clauses.every_pair a b) (clauses.no· (clauses.action (contents sheet.entry) n step a) ∷ (clauses.no· (clauses.action (contents sheet.entry) n step b) ∷ []))) literals.old literals.new ends.old ends.new m result }
-{
-    if excludes(a, b) {
-        let x = Numbering {
-            trailer: sheet.parts.trailer,
+impl Builder<'_, '_> {
+    ghost use Rattle.paper.specs.Step.{need_of, rule_of};
+    ghost use Rattle.theory.specs.Building.{as_lit, as_masks, Pushes, Ends, Adds};
+
+    // The literal of fact k at a moment.
+    fn fact(&self, moment: Moment, k: usize, sign: bool) -> Literal
+        requires { (moment.0 ≤ 8) × (k < 12) }
+        ensures { (n : ℕ) → as_lit result ≡ spec.lit (clauses.fact (contents self.now.sheet) n moment k) sign }
+    {
+        let numbers = Numbering {
+            trailer: self.sheet.parts.trailer,
+        };
+        Literal {
+            var: numbers.fact(moment, k),
+            sign,
         }
-        .action(step, a);
-        let y = Numbering {
-            trailer: sheet.parts.trailer,
+    }
+
+    // The literal of action a, from 0, at a step.
+    fn action(&self, step: Step, a: usize, sign: bool) -> Literal
+        requires { (step.0 < 8) × (a < 12) }
+        ensures { (n : ℕ) → as_lit result ≡ spec.lit (clauses.action (contents self.now.sheet) n step a) sign }
+    {
+        let numbers = Numbering {
+            trailer: self.sheet.parts.trailer,
+        };
+        Literal {
+            var: numbers.action(step, a),
+            sign,
         }
-        .action(step, b);
-        return pair(literals, ends, m, x, false, y, false);
     }
-    m
-}
 
-// The exclusions that name action a first.
-fn exclusions_of(
-    literals: &mut [u16],
-    ends: &mut [u16],
-    m: Filled,
-    sheet: Sheet,
-    step: Step,
-    a: usize,
-) -> Filled
-    requires { (step.0 < 8) × (a < 12) }
-    ensures { (n : ℕ) → spec.Adds (spec.exclusions_of (contents sheet.entry) n step a) literals.old literals.new ends.old ends.new m result }
-{
-    let actions = sheet.parts.trailer.actions;
-    let mut so = m;
-    for b in 0..actions {
-        so = exclusion(literals, ends, so, sheet, step, a, b);
+    // The literal of the z of rule j at a step.
+    fn z(&self, step: Step, j: usize, sign: bool) -> Literal
+        requires { (step.0 < 8) × (j < 24) }
+        ensures { (n : ℕ) → as_lit result ≡ spec.lit (clauses.z (contents self.now.sheet) n step j) sign }
+    {
+        let numbers = Numbering {
+            trailer: self.sheet.parts.trailer,
+        };
+        Literal {
+            var: numbers.z(step, j),
+            sign,
+        }
     }
-    so
-}
 
-// All exclusions of a step.
-fn exclusions_of_step(
-    literals: &mut [u16],
-    ends: &mut [u16],
-    m: Filled,
-    sheet: Sheet,
-    step: Step,
-) -> Filled
-    requires { (step.0 < 8) }
-    ensures { (n : ℕ) → spec.Adds (clauses.exclusions (contents sheet.entry) n clauses.every_pair step) literals.old literals.new ends.old ends.new m result }
-{
-    let actions = sheet.parts.trailer.actions;
-    let mut so = m;
-    for a in 0..actions {
-        so = exclusions_of(literals, ends, so, sheet, step, a);
+    // What action a needs.
+    fn need(&self, a: usize) -> Masks
+        requires { a < 12 }
+        ensures one { result.one ≡ (need_of (contents self.now.sheet) a).need1 }
+        ensures nil { result.nil ≡ (need_of (contents self.now.sheet) a).need0 }
+    {
+        let need = self.needs[a];
+        Masks {
+            one: need[0],
+            nil: need[1],
+        }
     }
-    so
-}
 
-// The z of the rules whose number i has fact k.
-fn push_setters(
-    literals: &mut [u16],
-    m: Filled,
-    sheet: Sheet,
-    rules: [[u16; 5]; 24],
-    step: Step,
-    i: usize,
-    k: usize,
-) -> Filled
-    requires { (step.0 < 8) × (i < 5) × (k < 12) }
-    ensures { (n : ℕ) → spec.Pushes (spec.setters (contents sheet.entry) n step (λ j. get_or (get_or rules j []) i 0) k) literals.old literals.new m result }
-{
-    let count = sheet.parts.trailer.rules;
-    let mut so = m;
-    for j in 0..count {
-        let rule = rules[j];
-        so = push_if(
-            literals,
-            so,
-            bits::bit(rule[i], k),
-            Numbering {
-                trailer: sheet.parts.trailer,
-            }
-            .z(step, j),
-            true,
-        );
+    // Rule j: action, cond1, cond0, set1, set0.
+    fn rule(&self, j: usize) -> [u16; 5]
+        requires { j < 24 }
+        ensures { result ≡ fives (rule_of (contents self.now.sheet) j) }
+    {
+        self.rules[j]
     }
-    so
-}
 
-// Fact k keeps the value that makes its literal of this sign false, unless a rule fires whose number i has the fact.
-fn frame(
-    literals: &mut [u16],
-    ends: &mut [u16],
-    m: Filled,
-    sheet: Sheet,
-    rules: [[u16; 5]; 24],
-    step: Step,
-    i: usize,
-    sign: bool,
-    k: usize,
-) -> Filled
-    requires { (step.0 < 8) × (i < 5) × (k < 12) }
-    ensures { (n : ℕ) → spec.Adds (spec.frame_of (contents sheet.entry) n step (λ j. get_or (get_or rules j []) i 0) sign k ∷ []) literals.old literals.new ends.old ends.new m result }
-{
-    let x = Numbering {
-        trailer: sheet.parts.trailer,
+    // Rule j sets fact k to this value.
+    fn sets(&self, j: usize, k: usize, value: bool) -> bool
+        requires { (j < 24) × (k < 12) }
+        ensures { result ≡ bit (spec.set_to value (rule_of (contents self.now.sheet) j)) k }
+    {
+        let rule = self.rule(j);
+        if value {
+            return bits::bit(rule[3], k);
+        }
+        bits::bit(rule[4], k)
     }
-    .fact(step.before(), k);
-    let y = Numbering {
-        trailer: sheet.parts.trailer,
+
+    // One literal more in the clause that is not ended yet; what finds no place is left out.
+    fn push(&mut self, l: Literal)
+        ensures { Pushes (λ p n. as_lit l ∷ []) self.old self.new }
+    {
+        let at = self.made.literals as usize;
+        if self.literals.len() <= at {
+            return;
+        }
+        if self.made.literals == u16::MAX {
+            return;
+        }
+        self.literals[at] = l.code();
+        self.made.literals += 1;
     }
-    .fact(step.after(), k);
-    let first = push(literals, m, x, sign);
-    let second = push_setters(literals, first, sheet, rules, step, i, k);
-    let third = push(literals, second, y, !sign);
-    end(ends, third)
-}
 
-// A fact that is 1 stays 1 unless a rule sets it to 0 (number 4 of a rule), and the other way round (number 3).
-fn frames_of(
-    literals: &mut [u16],
-    ends: &mut [u16],
-    m: Filled,
-    sheet: Sheet,
-    rules: [[u16; 5]; 24],
-    step: Step,
-    k: usize,
-) -> Filled
-    requires { (step.0 < 8) × (k < 12) }
-    ensures { (n : ℕ) → spec.Adds (spec.frame_of (contents sheet.entry) n step (λ j. get_or (get_or rules j []) 4 0) false k ∷ (spec.frame_of (contents sheet.entry) n step (λ j. get_or (get_or rules j []) 3 0) true k ∷ [])) literals.old literals.new ends.old ends.new m result }
-{
-    let first = frame(literals, ends, m, sheet, rules, step, 4, false, k);
-    frame(literals, ends, first, sheet, rules, step, 3, true, k)
-}
-
-// Every fact keeps its value unless a rule sets it.
-fn frames_of_step(
-    literals: &mut [u16],
-    ends: &mut [u16],
-    m: Filled,
-    sheet: Sheet,
-    rules: [[u16; 5]; 24],
-    step: Step,
-) -> Filled
-    requires { (step.0 < 8) }
-    ensures { (n : ℕ) (needs : List (List ℕ)) → Writes (contents sheet.entry) needs rules sheet.entry.parts.trailer.rules → spec.Adds (clauses.frames (contents sheet.entry) n step) literals.old literals.new ends.old ends.new m result }
-{
-    let facts = sheet.parts.trailer.facts;
-    let mut so = m;
-    for k in 0..facts {
-        so = frames_of(literals, ends, so, sheet, rules, step, k);
+    // A literal more where it is wanted.
+    fn push_if(&mut self, wanted: bool, l: Literal)
+        ensures { Pushes (λ p n. only wanted (as_lit l)) self.old self.new }
+    {
+        if wanted {
+            self.push(l);
+        }
     }
-    so
-}
 
-// What a step's actions need, and what its rules do.
-fn writes_of_step(
-    literals: &mut [u16],
-    ends: &mut [u16],
-    m: Filled,
-    sheet: Sheet,
-    needs: [[u16; 2]; 12],
-    rules: [[u16; 5]; 24],
-    step: Step,
-) -> Filled
-    requires { (step.0 < 8) × spec.Actions rules sheet.parts.trailer.rules }
-    ensures { (n : ℕ) → Writes (contents sheet.entry) needs rules sheet.entry.parts.trailer.rules → spec.Adds (clauses.need_clauses (contents sheet.entry) n step ++ clauses.z_clauses (contents sheet.entry) n step ++ clauses.effect_clauses (contents sheet.entry) n step) literals.old literals.new ends.old ends.new m result }
-{
-    let need = needs_of_step(literals, ends, m, sheet, needs, step);
-    let z = z_of_step(literals, ends, need, sheet, rules, step);
-    effects_of_step(literals, ends, z, sheet, rules, step)
-}
-
-// Precondition, z, effect, exclusion and frame clauses of a step.
-fn step_clauses(
-    literals: &mut [u16],
-    ends: &mut [u16],
-    m: Filled,
-    sheet: Sheet,
-    needs: [[u16; 2]; 12],
-    rules: [[u16; 5]; 24],
-    step: Step,
-) -> Filled
-    requires { (step.0 < 8) × spec.Actions rules sheet.parts.trailer.rules }
-    ensures { (n : ℕ) → Writes (contents sheet.entry) needs rules sheet.entry.parts.trailer.rules → spec.Adds (clauses.step_clauses (contents sheet.entry) n clauses.every_pair step) literals.old literals.new ends.old ends.new m result }
-{
-    let write = writes_of_step(literals, ends, m, sheet, needs, rules, step);
-    let exclusion = exclusions_of_step(literals, ends, write, sheet, step);
-    frames_of_step(literals, ends, exclusion, sheet, rules, step)
-}
-
-// The clauses of steps 0 to n - 1.
-fn steps(
-    literals: &mut [u16],
-    ends: &mut [u16],
-    m: Filled,
-    sheet: Sheet,
-    needs: [[u16; 2]; 12],
-    rules: [[u16; 5]; 24],
-    n: usize,
-) -> Filled
-    requires { (n ≤ 8) × spec.Actions rules sheet.parts.trailer.rules }
-    ensures { Writes (contents sheet.entry) needs rules sheet.entry.parts.trailer.rules → spec.Adds (spec.steps_of (contents sheet.entry) n) literals.old literals.new ends.old ends.new m result }
-{
-    let mut so = m;
-    for i in 0..n {
-        so = step_clauses(literals, ends, so, sheet, needs, rules, Step(i));
+    // The clause ends here.
+    fn end(&mut self)
+        ensures { Ends self.old self.new }
+    {
+        let at = self.made.clauses as usize;
+        if self.ends.len() <= at {
+            return;
+        }
+        if self.made.clauses == u16::MAX {
+            return;
+        }
+        self.ends[at] = self.made.literals;
+        self.made.clauses += 1;
     }
-    so
-}
 
-// The sheet's clause at an offset, at a moment; one that always holds is left out.
-fn clause_at(
-    literals: &mut [u16],
-    ends: &mut [u16],
-    m: Filled,
-    sheet: Sheet,
-    moment: Moment,
-    at: usize,
-) -> Filled
-    requires { (moment.0 ≤ 8) × (at + 4 ≤ length sheet.parts.bytes.now) }
-    ensures { (n : ℕ) → spec.Adds (clauses.at_moment (contents sheet.entry) n moment (paper.masks_at sheet.entry.parts.bytes.now at ∷ [])) literals.old literals.new ends.old ends.new m result }
-{
-    let pos = bits::word(sheet.parts.bytes, at);
-    let neg = bits::word(sheet.parts.bytes, at + 2);
-    if pos & neg != 0 {
-        return m;
+    // A clause of two literals.
+    fn pair(&mut self, first: Literal, second: Literal)
+        ensures { Adds (λ p n. (as_lit first ∷ (as_lit second ∷ [])) ∷ []) self.old self.new }
+    {
+        self.push(first);
+        self.push(second);
+        self.end();
     }
-    let all = push_facts(literals, m, sheet, moment, pos, neg, true);
-    end(ends, all)
-}
 
-// The sheet's clauses from an offset on, at a moment.
-fn clauses_at(
-    literals: &mut [u16],
-    ends: &mut [u16],
-    m: Filled,
-    sheet: Sheet,
-    moment: Moment,
-    from: usize,
-    count: usize,
-) -> Filled
-    requires { (moment.0 ≤ 8) × (from + 4 * count ≤ length sheet.parts.bytes.now) }
-    ensures { (n : ℕ) → spec.Adds (clauses.at_moment (contents sheet.entry) n moment (map (paper.masks_at sheet.entry.parts.bytes.now) (paper.offsets from 4 count))) literals.old literals.new ends.old ends.new m result }
-{
-    let mut so = m;
-    for i in 0..count {
-        so = clause_at(literals, ends, so, sheet, moment, from + 4 * i);
+    // A clause of a literal and x, which stands ahead or behind, where it is wanted.
+    fn pair_if(&mut self, wanted: bool, l: Literal, x: Literal, ahead: bool)
+        ensures { Adds (λ p n. only wanted (spec.besides ahead (as_lit x) (as_lit l))) self.old self.new }
+    {
+        if !wanted {
+            return;
+        }
+        if ahead {
+            return self.pair(x, l);
+        }
+        self.pair(l, x)
     }
-    so
+
+    // The literals that fact k has in two masks at a moment.
+    fn push_fact(&mut self, moment: Moment, masks: Masks, sign: bool, k: usize)
+        requires { (moment.0 ≤ 8) × (k < 12) }
+        ensures { Pushes (λ p n. spec.fact_as p n sign moment masks.one masks.nil k) self.old self.new }
+    {
+        let x = self.fact(moment, k, sign);
+        self.push_if(bits::bit(masks.one, k), x);
+        self.push_if(bits::bit(masks.nil, k), x.opposite());
+    }
+
+    // The literals of two masks at a moment, by fact, those of the first with this sign, those of the second with the other.
+    fn push_facts(&mut self, moment: Moment, masks: Masks, sign: bool)
+        requires { moment.0 ≤ 8 }
+        ensures { Pushes (λ p n. spec.literals_as p n sign moment masks.one masks.nil) self.old self.new }
+    {
+        let facts = self.sheet.parts.trailer.facts;
+        for k in 0..facts {
+            self.push_fact(moment, masks, sign, k);
+        }
+    }
+
+    // The clauses of x and the literals that fact k has in two masks.
+    fn pair_fact(&mut self, x: Literal, ahead: bool, moment: Moment, masks: Masks, k: usize)
+        requires { (moment.0 ≤ 8) × (k < 12) }
+        ensures { Adds (λ p n. map (spec.besides ahead (as_lit x)) (spec.fact_as p n true moment masks.one masks.nil k)) self.old self.new }
+    {
+        let y = self.fact(moment, k, true);
+        self.pair_if(bits::bit(masks.one, k), y, x, ahead);
+        self.pair_if(bits::bit(masks.nil, k), y.opposite(), x, ahead);
+    }
+
+    // A clause of x with each literal of two masks at a moment.
+    fn pair_facts(&mut self, x: Literal, ahead: bool, moment: Moment, masks: Masks)
+        requires { moment.0 ≤ 8 }
+        ensures { Adds (λ p n. map (spec.besides ahead (as_lit x)) (clauses.literals p n moment masks.one masks.nil)) self.old self.new }
+    {
+        let facts = self.sheet.parts.trailer.facts;
+        for k in 0..facts {
+            self.pair_fact(x, ahead, moment, masks, k);
+        }
+    }
+
+    // Action a's step needs its precondition.
+    fn need_clauses(&mut self, step: Step, a: usize)
+        requires { (step.0 < 8) × (a < 12) }
+        ensures { Adds (λ p n. spec.need_part p n step a) self.old self.new }
+    {
+        let x = self.action(step, a, false);
+        let need = self.need(a);
+        self.pair_facts(x, false, step.before(), need);
+    }
+
+    // What every action needs.
+    fn needs_of_step(&mut self, step: Step)
+        requires { step.0 < 8 }
+        ensures { Adds (λ p n. clauses.need_clauses p n step) self.old self.new }
+    {
+        let actions = self.sheet.parts.trailer.actions;
+        for a in 0..actions {
+            self.need_clauses(step, a);
+        }
+    }
+
+    // The conditions and the action of a rule, as opposites, and its z: where they hold, it does.
+    fn z_follows(&mut self, moment: Moment, conditions: Masks, action: Literal, z: Literal)
+        requires { moment.0 ≤ 8 }
+        ensures { Adds (λ p n. (map clauses.neg (clauses.literals p n moment conditions.one conditions.nil) ++ (as_lit action ∷ (as_lit z ∷ []))) ∷ []) self.old self.new }
+    {
+        self.push_facts(moment, conditions, false);
+        self.push(action);
+        self.push(z);
+        self.end();
+    }
+
+    // The z of rule j is equivalent to its action and conditions.
+    fn z_clauses(&mut self, step: Step, j: usize)
+        requires { (step.0 < 8) × (j < self.old.sheet.parts.trailer.rules) }
+        ensures { Adds (λ p n. spec.z_part p n step j) self.old self.new }
+    {
+        let rule = self.rule(j);
+        let number = rule[0] as usize;
+        let action = self.action(step, number - 1, true);
+        let z = self.z(step, j, false);
+        let conditions = Masks {
+            one: rule[1],
+            nil: rule[2],
+        };
+        self.pair(action, z);
+        self.pair_facts(z, false, step.before(), conditions);
+        self.z_follows(step.before(), conditions, action.opposite(), z.opposite());
+    }
+
+    // The clauses of every rule's z.
+    fn z_of_step(&mut self, step: Step)
+        requires { step.0 < 8 }
+        ensures { Adds (λ p n. clauses.z_clauses p n step) self.old self.new }
+    {
+        let rules = self.sheet.parts.trailer.rules;
+        for j in 0..rules {
+            self.z_clauses(step, j);
+        }
+    }
+
+    // What rule j sets where its z holds.
+    fn effect_clauses(&mut self, step: Step, j: usize)
+        requires { (step.0 < 8) × (j < 24) }
+        ensures { Adds (λ p n. spec.effect_part p n step j) self.old self.new }
+    {
+        let rule = self.rule(j);
+        let x = self.z(step, j, false);
+        let sets = Masks {
+            one: rule[3],
+            nil: rule[4],
+        };
+        self.pair_facts(x, true, step.after(), sets);
+    }
+
+    // What every rule sets.
+    fn effects_of_step(&mut self, step: Step)
+        requires { step.0 < 8 }
+        ensures { Adds (λ p n. clauses.effect_clauses p n step) self.old self.new }
+    {
+        let rules = self.sheet.parts.trailer.rules;
+        for j in 0..rules {
+            self.effect_clauses(step, j);
+        }
+    }
+
+    // Of two actions that exclude each other at most one is chosen.
+    fn exclusion(&mut self, step: Step, a: usize, b: usize)
+        requires { (step.0 < 8) × (a < 12) × (b < 12) }
+        ensures { Adds (λ p n. spec.exclusion_part p n step a b) self.old self.new }
+    {
+        if excludes(a, b) {
+            let x = self.action(step, a, false);
+            let y = self.action(step, b, false);
+            self.pair(x, y);
+        }
+    }
+
+    // The exclusions that name action a first.
+    fn exclusions_of(&mut self, step: Step, a: usize)
+        requires { (step.0 < 8) × (a < 12) }
+        ensures { Adds (λ p n. spec.exclusions_of p n step a) self.old self.new }
+    {
+        let actions = self.sheet.parts.trailer.actions;
+        for b in 0..actions {
+            self.exclusion(step, a, b);
+        }
+    }
+
+    // All exclusions of a step.
+    fn exclusions_of_step(&mut self, step: Step)
+        requires { step.0 < 8 }
+        ensures { Adds (λ p n. clauses.exclusions p n clauses.every_pair step) self.old self.new }
+    {
+        let actions = self.sheet.parts.trailer.actions;
+        for a in 0..actions {
+            self.exclusions_of(step, a);
+        }
+    }
+
+    // The z of the rules that set fact k to this value.
+    fn push_setters(&mut self, step: Step, k: usize, value: bool)
+        requires { (step.0 < 8) × (k < 12) }
+        ensures { Pushes (λ p n. spec.setters p n step (λ j. spec.set_to value (rule_of p j)) k) self.old self.new }
+    {
+        let rules = self.sheet.parts.trailer.rules;
+        for j in 0..rules {
+            let wanted = self.sets(j, k, value);
+            let z = self.z(step, j, true);
+            self.push_if(wanted, z);
+        }
+    }
+
+    // Fact k keeps the other value than this, unless a rule fires that sets it to this one.
+    fn frame(&mut self, step: Step, k: usize, value: bool)
+        requires { (step.0 < 8) × (k < 12) }
+        ensures { Adds (λ p n. spec.frame_of p n step (λ j. spec.set_to value (rule_of p j)) value k ∷ []) self.old self.new }
+    {
+        let x = self.fact(step.before(), k, value);
+        let y = self.fact(step.after(), k, !value);
+        self.push(x);
+        self.push_setters(step, k, value);
+        self.push(y);
+        self.end();
+    }
+
+    // A fact that is 1 stays 1 unless a rule sets it to 0, and the other way round.
+    fn frames_of(&mut self, step: Step, k: usize)
+        requires { (step.0 < 8) × (k < 12) }
+        ensures { Adds (λ p n. spec.frame_part p n step k) self.old self.new }
+    {
+        self.frame(step, k, false);
+        self.frame(step, k, true);
+    }
+
+    // Every fact keeps its value unless a rule sets it.
+    fn frames_of_step(&mut self, step: Step)
+        requires { step.0 < 8 }
+        ensures { Adds (λ p n. clauses.frames p n step) self.old self.new }
+    {
+        let facts = self.sheet.parts.trailer.facts;
+        for k in 0..facts {
+            self.frames_of(step, k);
+        }
+    }
+
+    // Precondition, z, effect, exclusion and frame clauses of a step.
+    fn step_clauses(&mut self, step: Step)
+        requires { step.0 < 8 }
+        ensures { Adds (λ p n. clauses.step_clauses p n clauses.every_pair step) self.old self.new }
+    {
+        self.needs_of_step(step);
+        self.z_of_step(step);
+        self.effects_of_step(step);
+        self.exclusions_of_step(step);
+        self.frames_of_step(step);
+    }
+
+    // The clauses of steps 0 to n - 1.
+    fn steps(&mut self, n: usize)
+        requires { n ≤ 8 }
+        ensures { Adds (λ p m. spec.steps_of p n) self.old self.new }
+    {
+        for i in 0..n {
+            self.step_clauses(Step(i));
+        }
+    }
+
+    // A clause of the sheet at a moment; one that always holds is left out.
+    fn clause(&mut self, moment: Moment, masks: Masks)
+        requires { moment.0 ≤ 8 }
+        ensures { Adds (λ p n. clauses.at_moment p n moment (as_masks masks ∷ [])) self.old self.new }
+    {
+        if masks.one & masks.nil != 0 {
+            return;
+        }
+        self.push_facts(moment, masks, true);
+        self.end();
+    }
+
+    // So many clauses of the sheet, which stand in bytes from an offset on, at a moment.
+    fn clauses_at(&mut self, moment: Moment, bytes: &[u8], from: usize, count: usize)
+        requires { (moment.0 ≤ 8) × (from + 4 * count ≤ length bytes.now) }
+        ensures { Adds (λ p n. clauses.at_moment p n moment (map (paper.masks_at bytes.now) (paper.offsets from 4 count))) self.old self.new }
+    {
+        for i in 0..count {
+            self.clause(moment, Masks::read(bytes, from + 4 * i));
+        }
+    }
+
+    // The start clauses at moment 0, the goal clauses at moment n, the clauses of each step.
+    fn theory(&mut self, n: usize)
+        requires { n ≤ 8 }
+        ensures { Adds (λ p m. clauses.theory p n) self.old self.new }
+    {
+        let parts = self.sheet.parts;
+        let counts = parts.trailer;
+        self.clauses_at(Moment(0), parts.bytes, parts.starts_at(), counts.starts);
+        self.clauses_at(Moment(n), parts.bytes, parts.goals_at(), counts.goals);
+        self.steps(n);
+    }
 }
 
 // T(P) at horizon n: the start clauses at moment 0, the goal clauses at moment n, the clauses of each step.
@@ -662,35 +509,17 @@ pub fn theory(sheet: Sheet, n: usize, literals: &mut [u16], ends: &mut [u16]) ->
     ensures stored { Stored literals.new ends.new result (clauses.theory (contents sheet.entry) n) [] }
     ensures behind { (drop result.literals literals.new ≡ drop result.literals literals.old) × (drop result.clauses ends.new ≡ drop result.clauses ends.old) }
 {
-    let none = Filled {
-        literals: 0,
-        clauses: 0,
+    let mut builder = Builder {
+        literals,
+        ends,
+        made: Filled {
+            literals: 0,
+            clauses: 0,
+        },
+        sheet,
+        needs: sheet.parts.needs(),
+        rules: sheet.parts.rules(),
     };
-    let start = clauses_at(
-        literals,
-        ends,
-        none,
-        sheet,
-        Moment(0),
-        sheet.parts.starts_at(),
-        sheet.parts.trailer.starts,
-    );
-    let goal = clauses_at(
-        literals,
-        ends,
-        start,
-        sheet,
-        Moment(n),
-        sheet.parts.goals_at(),
-        sheet.parts.trailer.goals,
-    );
-    steps(
-        literals,
-        ends,
-        goal,
-        sheet,
-        sheet.parts.needs(),
-        sheet.parts.rules(),
-        n,
-    )
+    builder.theory(n);
+    builder.made
 }
