@@ -2,13 +2,11 @@
 use mathlib.Core.Path.{◌≡◌, refl, sym, ap, ◌∙◌, subst}
 use mathlib.Core.Bool.{Bool, true, false, ◌&&◌}
 use mathlib.Core.List.{List, [], ◌∷◌, ◌++◌, map}
-use Prim.Native.Nat.{ℕ, zero, suc, ◌+◌, ◌-◌, ◌*◌, ◌≤◌, ◌<◌}
-use native.Mathlib.Numerals.{add-one}
-use native.Mathlib.Nat.{mul-suc}
+use Prim.Native.Nat.{ℕ, zero, suc, ◌+◌, ◌-◌, ◌*◌, ◌≤◌}
 use native.Mathlib.Omega.{arith}
-use lib.Dec.{eqb, leb}
-use lib.ListN.{length, length-map, get_or, get_or-eq_default}
-use borrow.Author.Tests.{leb-true, eqb-true}
+use lib.Dec.{eqb, leb, ltb}
+use lib.ListN.{length, length-map, replicate, get_or, get_or-eq_default}
+use borrow.Author.Tests.{leb-true, eqb-true, ltb-true, ltb-false}
 use Rattle.paper.specs.declared.Trailer.{Trailer}
 use Rattle.paper.specs.declared.Fault.TheVariants.{Unmarked, Unbounded, Disagrees, BadRow}
 use Rattle.paper.specs.Lists.{filter, up_from}
@@ -16,11 +14,13 @@ use Rattle.paper.specs.Sheet.{Sheet, trailer, trailer_length, body_at, body_leng
 use Rattle.paper.specs.Step.{need_of, rule_of}
 use Rattle.paper.proofs.Basic.{and_e, by}
 use Rattle.paper.proofs.Decoded.{within_bounded, length_count}
-use Rattle.bits.proofs.Filled.{value_at_lem, rows_of}
+use Rattle.bits.proofs.Filled.{value_at_lem, rows_of, map_below}
 use Rattle.sheet.specs.declared.Part.TheVariants.{Needs, Rules, Clauses}
-use Rattle.std.specs.Prelude.{Option, Some, None, Ok, Err}
+use Rattle.std.specs.Prelude.{Some, None, Ok, Err}
+use Rattle.std.specs.List.{find, range_with_len}
 use Rattle.std.specs.Option.{option_or}
-use Rattle.sheet.specs.Reading.{Whole, bad_row, first_in}
+use Rattle.sheet.specs.declared.Part.{Part}
+use Rattle.sheet.specs.Reading.{Whole, width, bad_row, first_bad, first_in, numbers, row_below, pair, fives, pairs_of, fives_of}
 
 -- bytes whose counts are within their bounds and agree with the file's length
 whole_of : (b : List ℕ) → Bounded (trailer b) → (trailer b).back ≡ body_length (trailer b) → length b ≡ (trailer b).back + trailer_length → Whole b (trailer b)
@@ -41,41 +41,17 @@ agrees_is b t = by (eqb t.back (body_length t))
     (λ e. rw e (ap (λ (n : ℕ). eqb (length b) (n + 16)) (sym (eqb-true t.back (body_length t) e))))
     (λ e. rw e)
 
--- ---- rows of w bytes, from the front
-offsets_from : (o w n i : ℕ) → map (λ k. o + w * k) (up_from (i + 1) n) ≡ map (λ k. (o + w) + w * k) (up_from i n)
+-- ---- the first bad row
+find_first : (f : ℕ → Bool) (v : ℕ → ℕ) (n i : ℕ) → find f (map v (range_with_len i n)) ≡ first_in (filter f (map v (up_from i n)))
 unfolding up_from
-offsets_from o w zero i = refl
-offsets_from o w (suc n) i =
-    let e : o + w * (i + 1) ≡ o + w + w * i = omega (arith, ap (λ (x : ℕ). w * x) (add-one i), mul-suc w i) in
-    rw (e, offsets_from o w n (i + 1))
+find_first f v zero i = refl
+find_first f v (suc n) i = by (f (v i)) (λ e. rw e) (λ e. rw e (find_first f v n (i + 1)))
 
-pub offsets_next : (o w n : ℕ) → offsets o w (suc n) ≡ o ∷ offsets (o + w) w n
-unfolding offsets up_from
-offsets_next o w n =
-    let e : o + w * 0 ≡ o = omega arith in
-    rw (e, offsets_from o w n 0)
+row_found : (b : List ℕ) (t : Trailer) (p : Part) (o n : ℕ) → first_in (filter (bad_row b t p) (offsets o (width p) n)) ≡ first_bad b t p o n
+unfolding offsets first_bad
+row_found b t p o n = sym (find_first (bad_row b t p) (λ k. o + width p * k) n 0)
 
--- n - c rows are left, of w bytes each
-pub rows_left : (w n c : ℕ) → c < n → w * (n - c) ≡ w + w * (n - (c + 1))
-rows_left w n c h = let e : n - c ≡ suc (n - (c + 1)) = omega arith in ap (λ (x : ℕ). w * x) e ∙ mul-suc w (n - (c + 1)) ∙ omega arith
-
-module _ (f : ℕ → Bool) (at w n c : ℕ) (r : Option ℕ) (left : first_in (filter f (offsets at w (n - c))) ≡ r) (h : c < n) where
-  one_row : first_in (filter f (at ∷ offsets (at + w) w (n - (c + 1)))) ≡ r
-  one_row =
-      let e : n - c ≡ suc (n - (c + 1)) = omega arith in
-      ap (λ xs. first_in (filter f xs)) (sym (offsets_next at w (n - (c + 1))) ∙ ap (offsets at w) (sym e)) ∙ left
-
-  pub first_found : f at ≡ true → Some at ≡ r
-  first_found e = rw e at one_row
-
-  pub first_next : f at ≡ false → first_in (filter f (offsets (at + w) w (n - (c + 1)))) ≡ r
-  first_next e = rw e at one_row
-
-pub first_none : (f : ℕ → Bool) (at w n c : ℕ) (r : Option ℕ) → first_in (filter f (offsets at w (n - c))) ≡ r → n ≤ c → None ≡ r
-unfolding offsets up_from
-first_none f at w n c r left h = let e : n - c ≡ 0 = omega arith in rw e at left
-
-pub first_append : (xs ys : List ℕ) → first_in (xs ++ ys) ≡ option_or (first_in xs) (first_in ys)
+first_append : (xs ys : List ℕ) → first_in (xs ++ ys) ≡ option_or (first_in xs) (first_in ys)
 first_append [] ys = refl
 first_append (x ∷ xs) ys = refl
 
@@ -83,37 +59,42 @@ first_append (x ∷ xs) ys = refl
 pub first_rows : (b : List ℕ) (t : Trailer) →
     first_in (bad_rows b t)
     ≡ option_or (option_or (option_or
-    (first_in (filter (bad_row b t Needs) (offsets (body_at b t) 4 t.actions)))
-    (first_in (filter (bad_row b t Rules) (offsets (body_at b t + 4 * t.actions) 10 t.rules))))
-    (first_in (filter (bad_row b t Clauses) (offsets (body_at b t + 4 * t.actions + 10 * t.rules) 4 t.starts))))
-    (first_in (filter (bad_row b t Clauses) (offsets (body_at b t + 4 * t.actions + 10 * t.rules + 4 * t.starts) 4 t.goals)))
+    (first_bad b t Needs (body_at b t) t.actions)
+    (first_bad b t Rules (body_at b t + 4 * t.actions) t.rules))
+    (first_bad b t Clauses (body_at b t + 4 * t.actions + 10 * t.rules) t.starts))
+    (first_bad b t Clauses (body_at b t + 4 * t.actions + 10 * t.rules + 4 * t.starts) t.goals)
 unfolding bad_rows needs_at rules_at starts_at goals_at
-first_rows b t = rw (first_append, first_append, first_append)
+first_rows b t =
+    rw (first_append, first_append, first_append, ← row_found b t Needs, ← row_found b t Rules, ← row_found b t Clauses (body_at b t + 4 * t.actions + 10 * t.rules), ← row_found b t Clauses)
 
 -- ---- rows by number
+pub words_2 : (b : List ℕ) (o : ℕ) → numbers b o 2 ≡ pair (need_at b o)
+unfolding numbers need_at up_from
+words_2 b o = let e : o + 2 * 0 ≡ o = omega arith in rw e
+
+pub words_5 : (b : List ℕ) (o : ℕ) → numbers b o 5 ≡ fives (rule_at b o)
+unfolding numbers rule_at up_from
+words_5 b o = let e : o + 2 * 0 ≡ o = omega arith in rw e
+
+past_rows : {A : Type 0} (f : ℕ → A) (d : A) (o w c j : ℕ) → c ≤ j → get_or (map f (offsets o w c)) j d ≡ d
+unfolding offsets
+past_rows f d o w c j h = get_or-eq_default (map f (offsets o w c)) d (simp (length-map, length_count) (omega arith))
+
+-- m rows of n numbers, of which the first c stand in the bytes, are the listed rows with zeros after them
+rows_are : {A : Type 0} (b : List ℕ) (f : ℕ → A) (d : A) (row : A → List ℕ) (n o c m : ℕ) → ((p : ℕ) → numbers b p n ≡ row (f p)) → replicate n 0 ≡ row d
+    → map (row_below b o n c) (up_from 0 m) ≡ map (λ j. row (get_or (map f (offsets o (2 * n) c)) j d)) (up_from 0 m)
+rows_are b f d row n o c m is none = map_below _ _ m (λ j h. by (ltb j c)
+    (λ e. rw e (is (o + 2 * n * j) ∙ ap row (sym (ap (λ xs. get_or xs j d) (rows_of f o (2 * n) c) ∙ value_at_lem (λ k. f (o + 2 * n * k)) d c j (ltb-true j c e)))))
+    (λ e. rw e (none ∙ ap row (sym (past_rows f d o (2 * n) c j (ltb-false j c e))))))
+
 module _ (b : List ℕ) (t : Trailer) where
-  pub need_is : (a : ℕ) → a < t.actions → need_of (sheet_of b t) a ≡ need_at b (body_at b t + 4 * a)
-  unfolding need_of sheet_of needs_at
-  need_is a h = ap (λ xs. get_or xs a (record { need1 = 0; need0 = 0 })) (rows_of (need_at b) (body_at b t) 4 t.actions) ∙ value_at_lem (λ k. need_at b (body_at b t + 4 * k)) _ t.actions a h
+  pub needs_are : map (row_below b (body_at b t) 2 t.actions) (up_from 0 12) ≡ pairs_of (sheet_of b t)
+  unfolding pairs_of need_of sheet_of needs_at
+  needs_are = rows_are b (need_at b) (record { need1 = 0; need0 = 0 }) pair 2 (body_at b t) t.actions 12 (words_2 b) refl
 
-  pub rule_is : (j : ℕ) → j < t.rules → rule_of (sheet_of b t) j ≡ rule_at b (body_at b t + 4 * t.actions + 10 * j)
-  unfolding rule_of sheet_of rules_at
-  rule_is j h =
-      ap (λ xs. get_or xs j (record { action = 0; cond1 = 0; cond0 = 0; set1 = 0; set0 = 0 })) (rows_of (rule_at b) (body_at b t + 4 * t.actions) 10 t.rules)
-      ∙ value_at_lem (λ k. rule_at b (body_at b t + 4 * t.actions + 10 * k)) _ t.rules j h
-
-  rows_none : {A : Type 0} (f : ℕ → A) (d : A) (o w n k : ℕ) → n ≤ k → get_or (map f (offsets o w n)) k d ≡ d
-  unfolding offsets
-  rows_none f d o w n k h =
-      get_or-eq_default (map f (offsets o w n)) d (simp (length-map, length_count) (omega arith))
-
-  pub need_none : (a : ℕ) → t.actions ≤ a → need_of (sheet_of b t) a ≡ record { need1 = 0; need0 = 0 }
-  unfolding need_of sheet_of needs_at
-  need_none a h = rows_none (need_at b) _ (body_at b t) 4 t.actions a h
-
-  pub rule_none : (j : ℕ) → t.rules ≤ j → rule_of (sheet_of b t) j ≡ record { action = 0; cond1 = 0; cond0 = 0; set1 = 0; set0 = 0 }
-  unfolding rule_of sheet_of rules_at
-  rule_none j h = rows_none (rule_at b) _ (body_at b t + 4 * t.actions) 10 t.rules j h
+  pub rules_are : map (row_below b (body_at b t + 4 * t.actions) 5 t.rules) (up_from 0 24) ≡ fives_of (sheet_of b t)
+  unfolding fives_of rule_of sheet_of rules_at
+  rules_are = rows_are b (rule_at b) (record { action = 0; cond1 = 0; cond0 = 0; set1 = 0; set0 = 0 }) fives 5 (body_at b t + 4 * t.actions) t.rules 24 (words_5 b) refl
 
 -- ---- what decode says, test by test
 row_bad : (os : List ℕ) (p : Sheet) (o : ℕ) → first_in os ≡ Some o → Err (BadRow o) ≡ no_row os p
@@ -160,6 +141,4 @@ module _ (b : List ℕ) where
       leb-true 16 (length b) h.0
 
 -- what the code's proofs use
-pub ruleset rows_in_order = (rows_left, first_found, first_next, first_none)
-
 pub ruleset reading = (within_bounded, marked_long, whole_read, read_unmarked, read_unbounded, read_disagrees, read_bad, read_good)

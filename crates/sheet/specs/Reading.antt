@@ -1,9 +1,10 @@
 -- How the code holds what decode says: the trailer of an accepted sheet beside its bytes, rows as arrays of numbers.
 -- Assumes nothing.
-use Rattle.std.specs.Prelude.{◌≡◌, Bool, not, List, [], ◌∷◌, map, ℕ, ◌+◌, ◌*◌, ◌≤◌, length, Option, Some, None}
+use Rattle.std.specs.Prelude.{◌≡◌, Bool, not, cond, ltb, replicate, List, [], ◌∷◌, map, ℕ, ◌+◌, ◌*◌, ◌≤◌, length, Option, Some, None}
+use Rattle.std.specs.List.{find, range_with_len}
 use Rattle.paper.specs.declared.Trailer.{Trailer}
 use Rattle.paper.specs.Lists.{up_from}
-use Rattle.paper.specs.Sheet.{Need, Rule, Sheet, trailer, body_at, Bounded, good_need, good_rule, good_masks, need_at, rule_at, masks_at}
+use Rattle.paper.specs.Sheet.{Need, Rule, Sheet, word, trailer, body_at, Bounded, good_need, good_rule, good_masks, need_at, rule_at, masks_at}
 use Rattle.paper.specs.Step.{need_of, rule_of}
 use Rattle.sheet.specs.declared.Part.{Part}
 use Rattle.sheet.specs.declared.Part.TheVariants.{Needs, Rules, Clauses}
@@ -28,10 +29,21 @@ bad_row b t Needs o = not (good_need t.facts (need_at b o))
 bad_row b t Rules o = not (good_rule t.facts t.actions (rule_at b o))
 bad_row b t Clauses o = not (good_masks t.facts (masks_at b o))
 
+-- the first of n rows of a kind, one after the other from an offset on, that breaks 4
+unfoldable pub first_bad : List ℕ → Trailer → Part → ℕ → ℕ → Option ℕ
+first_bad b t p o n = find (bad_row b t p) (map (λ k. o + width p * k) (range_with_len 0 n))
+
 -- the first of some offsets
 abbrev pub first_in : List ℕ → Option ℕ
 first_in [] = None
 first_in (o ∷ os) = Some o
+
+-- n numbers in a row, the first at an offset; row j of m such rows, zeros where there is none
+unfoldable pub numbers : List ℕ → ℕ → ℕ → List ℕ
+numbers b o n = map (λ i. word b (o + 2 * i)) (up_from 0 n)
+
+abbrev pub row_below : List ℕ → ℕ → ℕ → ℕ → ℕ → List ℕ
+row_below b o n m j = cond (ltb j m) (numbers b (o + 2 * n * j) n) (replicate n 0)
 
 -- a need and a rule as arrays of numbers, and all that a sheet can have
 abbrev pub pair : Need → List ℕ

@@ -1,12 +1,13 @@
-// A sheet's bytes: refused by 1, 2, 3 or 4 exactly as document 01 says, or accepted, with its trailer and its rows decoded.
-#![tactic(auto, unfolding(paper::specs::Sheet::marked, paper::specs::Sheet::trailer, paper::specs::Sheet::within, paper::specs::Sheet::body_length, paper::specs::Sheet::fits, paper::specs::Sheet::good_need, paper::specs::Sheet::need_at, paper::specs::Sheet::good_rule, paper::specs::Sheet::rule_at, paper::specs::Sheet::good_masks, paper::specs::Sheet::masks_at, paper::specs::Sheet::body_at, paper::specs::Sheet::sheet_of))]
+// A sheet's bytes: refused by the first of 1, 2, 3 and 4 that applies, or accepted, with its trailer and its rows decoded.
+#![tactic(auto, unfolding(paper::specs::Sheet::marked, paper::specs::Sheet::trailer, paper::specs::Sheet::within, paper::specs::Sheet::body_length, paper::specs::Sheet::fits, paper::specs::Sheet::body_at, paper::specs::Sheet::sheet_of))]
 
-ghost use Rattle.std.specs.Prelude.{◌≡◌, not, ◌+◌, ◌*◌, ◌≤◌, ◌<◌, length};
-ghost use Rattle.paper.specs.Lists.{filter};
+ghost use Rattle.std.specs.Prelude.{◌≡◌, not, map, ◌+◌, ◌*◌, ◌≤◌, ◌<◌, length};
+ghost use Rattle.paper.specs.Lists.{up_from};
 ghost use Rattle.paper.specs.Sheet as paper;
 ghost use Rattle.sheet.specs.Reading as spec;
 
 use paper::{Fault, Trailer};
+use std::array;
 
 // The kinds of rows: of two masks that may not overlap, of an action and two such pairs, of two masks.
 #[derive(Clone, Copy)]
@@ -14,6 +15,18 @@ pub enum Part {
     Needs,
     Rules,
     Clauses,
+}
+
+impl Part {
+    // The bytes of a row.
+    fn width(self) -> usize
+        ensures { result ≡ spec.width self }
+    {
+        match self {
+            Part::Needs | Part::Clauses => 4,
+            Part::Rules => 10,
+        }
+    }
 }
 
 // Bytes whose trailer's counts are within their bounds and agree with the length: it is known where each part lies.
@@ -36,7 +49,7 @@ fn count(b: &[u8], at: usize) -> usize
     requires { at + 1 < length b.now }
     ensures { result ≡ paper.word b.now at }
 {
-    bits::word(b, at) as usize
+    usize::from(bits::word(b, at))
 }
 
 // 1 does not apply: 16 bytes or more, the last two of which are the mark.
@@ -44,10 +57,7 @@ fn marked(b: &[u8]) -> bool
     ensures { result ≡ paper.marked b.now }
 {
     let n = b.len();
-    if n < 16 {
-        return false;
-    }
-    (b[n - 2] == 0x52) & (b[n - 1] == 0x53)
+    16 <= n && b[n - 2] == 0x52 && b[n - 1] == 0x53
 }
 
 // The trailer is the file's last 16 bytes.
@@ -109,95 +119,67 @@ fn good_pair(f: usize, one: u16, nil: u16) -> bool
     requires { f ≤ 12 }
     ensures { result ≡ paper.good_pair f one nil }
 {
-    fits(f, one as u32) & fits(f, nil as u32) & (one & nil == 0)
+    fits(f, u32::from(one)) & fits(f, u32::from(nil)) & (one & nil == 0)
 }
 
+// A row of N numbers at an offset.
+fn row<const N: usize>(b: &[u8], at: usize) -> [u16; N]
+    requires { at + 2 * N ≤ length b.now }
+    ensures { result ≡ spec.numbers b.now at N }
+{
+    array::from_fn(|k| bits::word(b, at + 2 * k))
+}
+
+#[tactic(auto, using(crate::proofs::Laws::words_2), unfolding(paper::specs::Sheet::good_need, paper::specs::Sheet::need_at))]
 fn good_need(b: &[u8], f: usize, at: usize) -> bool
     requires { (f ≤ 12) × (at + 4 ≤ length b.now) }
     ensures { result ≡ paper.good_need f (paper.need_at b.now at) }
 {
-    good_pair(f, bits::word(b, at), bits::word(b, at + 2))
+    let [one, nil] = row::<2>(b, at);
+    good_pair(f, one, nil)
 }
 
+#[tactic(auto, using(crate::proofs::Laws::words_5), unfolding(paper::specs::Sheet::good_rule, paper::specs::Sheet::rule_at))]
 fn good_rule(b: &[u8], f: usize, a: usize, at: usize) -> bool
     requires { (f ≤ 12) × (at + 10 ≤ length b.now) }
     ensures { result ≡ paper.good_rule f a (paper.rule_at b.now at) }
 {
-    let action = count(b, at);
-    let cond = good_pair(f, bits::word(b, at + 2), bits::word(b, at + 4));
-    let set = good_pair(f, bits::word(b, at + 6), bits::word(b, at + 8));
+    let [action, cond1, cond0, set1, set0] = row::<5>(b, at);
+    let action = usize::from(action);
+    let cond = good_pair(f, cond1, cond0);
+    let set = good_pair(f, set1, set0);
     ((1 <= action) & (action <= a)) & (cond & set)
 }
 
+#[tactic(auto, using(crate::proofs::Laws::words_2), unfolding(paper::specs::Sheet::good_masks, paper::specs::Sheet::masks_at, paper::specs::Sheet::need_at))]
 fn good_masks(b: &[u8], f: usize, at: usize) -> bool
     requires { (f ≤ 12) × (at + 4 ≤ length b.now) }
     ensures { result ≡ paper.good_masks f (paper.masks_at b.now at) }
 {
-    fits(f, bits::word(b, at) as u32) & fits(f, bits::word(b, at + 2) as u32)
+    let [pos, neg] = row::<2>(b, at);
+    fits(f, u32::from(pos)) & fits(f, u32::from(neg))
 }
 
-// The bytes of a row.
-fn width(part: Part) -> usize
-    ensures { result ≡ spec.width part }
+// M rows of N numbers, of which the first n follow each other from an offset on, and the others are zeros.
+fn rows<const N: usize, const M: usize>(b: &[u8], from: usize, n: usize) -> [[u16; N]; M]
+    requires { from + 2 * N * n ≤ length b.now }
+    ensures { result ≡ map (spec.row_below b.now from N n) (up_from 0 M) }
 {
-    match part {
-        Part::Needs => 4,
-        Part::Rules => 10,
-        Part::Clauses => 4,
-    }
-}
-
-// 4 applies to the row at an offset.
-fn bad_row(b: &[u8], t: Trailer, part: Part, at: usize) -> bool
-    requires { (t.facts ≤ 12) × (at + spec.width part ≤ length b.now) }
-    ensures { result ≡ spec.bad_row b.now t part at }
-{
-    match part {
-        Part::Needs => !good_need(b, t.facts, at),
-        Part::Rules => !good_rule(b, t.facts, t.actions, at),
-        Part::Clauses => !good_masks(b, t.facts, at),
-    }
-}
-
-// The first of n rows from an offset on that is refused.
-#[tactic(auto, using(crate::proofs::Laws::rows_in_order))]
-fn first_bad(b: &[u8], t: Trailer, part: Part, from: usize, n: usize) -> Option<u32>
-    requires { (t.facts ≤ 12) × (from + spec.width part * n ≤ length b.now) × (length b.now ≤ 65536) }
-    ensures { result ≡ spec.first_in (filter (spec.bad_row b.now t part) (paper.offsets from (spec.width part) n)) }
-{
-    let step = width(part);
-    let mut at = from;
-    for _ in 0..n {
-        if bad_row(b, t, part, at) {
-            return Some(at as u32);
-        }
-        at = at + step;
-    }
-    None
-}
-
-fn need_at(b: &[u8], at: usize) -> [u16; 2]
-    requires { at + 4 ≤ length b.now }
-    ensures { result ≡ spec.pair (paper.need_at b.now at) }
-{
-    [bits::word(b, at), bits::word(b, at + 2)]
-}
-
-fn rule_at(b: &[u8], at: usize) -> [u16; 5]
-    requires { at + 10 ≤ length b.now }
-    ensures { result ≡ spec.fives (paper.rule_at b.now at) }
-{
-    [
-        bits::word(b, at),
-        bits::word(b, at + 2),
-        bits::word(b, at + 4),
-        bits::word(b, at + 6),
-        bits::word(b, at + 8),
-    ]
+    array::from_fn(
+        |j|
+            requires { from + 2 * N * n ≤ length b.now }
+            ensures { result ≡ spec.row_below b.entry.now from N n j }
+        {
+            if j < n {
+                row(b, from + 2 * N * j)
+            } else {
+                [0; N]
+            }
+        },
+    )
 }
 
 impl<'a> Parts<'a> {
-    ghost use Rattle.paper.specs.Step.{need_of, rule_of};
     ghost use Rattle.sheet.specs.Contents.{sheet_in};
 
     // Where the body begins.
@@ -226,17 +208,41 @@ impl<'a> Parts<'a> {
         self.starts_at() + 4 * self.trailer.starts
     }
 
+    // 4 applies to the row at an offset.
+    fn bad_row(self, part: Part, at: usize) -> bool
+        requires { at + spec.width part ≤ length self.bytes.now }
+        ensures { result ≡ spec.bad_row self.entry.bytes.now self.entry.trailer part at }
+    {
+        let facts = self.trailer.facts;
+        !match part {
+            Part::Needs => good_need(self.bytes, facts, at),
+            Part::Rules => good_rule(self.bytes, facts, self.trailer.actions, at),
+            Part::Clauses => good_masks(self.bytes, facts, at),
+        }
+    }
+
+    // The first of n rows from an offset on that is refused.
+    #[tactic(auto, unfolding(crate::specs::Reading::first_bad))]
+    fn first_bad(self, part: Part, from: usize, n: usize) -> Option<u32>
+        requires { from + spec.width part * n ≤ length self.bytes.now }
+        ensures { result ≡ spec.first_bad self.entry.bytes.now self.entry.trailer part from n }
+    {
+        let width = part.width();
+        (0..n)
+            .map(|k| (from + width * k) as u32)
+            .find(|at| self.bad_row(part, *at as usize))
+    }
+
     // The first refused row of the body, in the order of the file.
     #[tactic(auto, using(crate::proofs::Laws::first_rows))]
     fn first_bad_row(self) -> Option<u32>
         ensures { result ≡ spec.first_in (paper.bad_rows self.entry.bytes.now self.entry.trailer) }
     {
-        let b = self.bytes;
         let t = self.trailer;
-        let needs = first_bad(b, t, Part::Needs, self.body_at(), t.actions);
-        let rules = first_bad(b, t, Part::Rules, self.rules_at(), t.rules);
-        let starts = first_bad(b, t, Part::Clauses, self.starts_at(), t.starts);
-        let goals = first_bad(b, t, Part::Clauses, self.goals_at(), t.goals);
+        let needs = self.first_bad(Part::Needs, self.body_at(), t.actions);
+        let rules = self.first_bad(Part::Rules, self.rules_at(), t.rules);
+        let starts = self.first_bad(Part::Clauses, self.starts_at(), t.starts);
+        let goals = self.first_bad(Part::Clauses, self.goals_at(), t.goals);
         needs.or(rules).or(starts).or(goals)
     }
 
@@ -254,48 +260,20 @@ impl<'a> Parts<'a> {
         self.trailer.actions
     }
 
-    // Zeros where there is no such action.
-    #[tactic(auto, using(crate::proofs::Laws::need_is, crate::proofs::Laws::need_none))]
-    fn need(self, a: usize) -> [u16; 2]
-        ensures { result ≡ spec.pair (need_of (sheet_in self.entry) a) }
-    {
-        if a < self.trailer.actions {
-            return need_at(self.bytes, self.body_at() + 4 * a);
-        }
-        [0u16; 2]
-    }
-
     // The needs of the actions: need1, need0.
+    #[tactic(auto, using(crate::proofs::Laws::needs_are))]
     pub fn needs(self) -> [[u16; 2]; 12]
         ensures { result ≡ spec.pairs_of (sheet_in self.entry) }
     {
-        let mut out = [[0u16; 2]; 12];
-        for a in 0..12 {
-            out[a] = self.need(a);
-        }
-        out
-    }
-
-    // Zeros where there is no such rule.
-    #[tactic(auto, using(crate::proofs::Laws::rule_is, crate::proofs::Laws::rule_none))]
-    fn rule(self, j: usize) -> [u16; 5]
-        ensures { result ≡ spec.fives (rule_of (sheet_in self.entry) j) }
-    {
-        if j < self.trailer.rules {
-            return rule_at(self.bytes, self.rules_at() + 10 * j);
-        }
-        [0u16; 5]
+        rows(self.bytes, self.body_at(), self.trailer.actions)
     }
 
     // The decoded rules: action, cond1, cond0, set1, set0.
+    #[tactic(auto, using(crate::proofs::Laws::rules_are))]
     pub fn rules(self) -> [[u16; 5]; 24]
         ensures { result ≡ spec.fives_of (sheet_in self.entry) }
     {
-        let mut out = [[0u16; 5]; 24];
-        for j in 0..24 {
-            out[j] = self.rule(j);
-        }
-        out
+        rows(self.bytes, self.rules_at(), self.trailer.rules)
     }
 }
 
