@@ -1,10 +1,10 @@
 // What comes back: the code and the numbers of an answer.
 #![tactic(auto)]
 
-ghost use Rattle.std.specs.Prelude.{◌≡◌, Ok};
+ghost use Rattle.std.specs.Prelude.{◌≡◌};
 ghost use Rattle.paper.specs.Answers.{code, check_numbers, run_numbers, compile_code, compile_numbers, judge_numbers, plan_code, plan_numbers};
 
-use paper::{Built, Ended, Fault, Planned};
+use paper::{Built, Ended, Fault, Limit, Planned};
 
 // Check, run and judge: the refusal's number, or 0.
 pub fn code<T: Copy>(answer: Result<T, Fault>) -> u32
@@ -36,42 +36,26 @@ pub fn run_numbers(end: Result<Ended, Fault>) -> [u32; 4]
     }
 }
 
-fn built_code(b: Built) -> u32
-    ensures { result ≡ compile_code (Ok b) }
-{
-    match b {
-        Built::TooMuch => 7,
-        Built::NoRoom(_) => 8,
-        Built::Whole(_, _, _) => 0,
-    }
-}
-
+// Compile: the number of the refusal or of the limit that was passed, or 0.
 pub fn compile_code(c: Result<Built, Fault>) -> u32
     ensures { result ≡ compile_code c }
 {
     match c {
         Err(f) => f.number(),
-        Ok(b) => built_code(b),
+        Ok(Err(limit)) => limit.number(),
+        Ok(Ok(_)) => 0,
     }
 }
 
 // Place, the horizon where a limit ended it, effort, rows and root.
-fn built_numbers(n: u32, b: Built) -> [u32; 5]
-    ensures { result ≡ compile_numbers n (Ok b) }
-{
-    match b {
-        Built::TooMuch => [0, n, 0, 0, 0],
-        Built::NoRoom(effort) => [0, n, effort, 0, 0],
-        Built::Whole(effort, rows, root) => [0, 0, effort, rows, root],
-    }
-}
-
 pub fn compile_numbers(n: u32, c: Result<Built, Fault>) -> [u32; 5]
     ensures { result ≡ compile_numbers n c }
 {
     match c {
         Err(f) => [f.place(), 0, 0, 0, 0],
-        Ok(b) => built_numbers(n, b),
+        Ok(Err(Limit::TooMuch)) => [0, n, 0, 0, 0],
+        Ok(Err(Limit::NoRoom(effort))) => [0, n, effort, 0, 0],
+        Ok(Ok(circuit)) => [0, 0, circuit.effort, circuit.rows, circuit.root],
     }
 }
 
@@ -85,27 +69,32 @@ pub fn judge_numbers(value: Result<bool, Fault>) -> [u32; 2]
     }
 }
 
-pub fn plan_code(p: Planned) -> u32
+// Plan: the refusal's number, 7 or 8 by the limit that was passed, 9 where there is no plan, or 0.
+pub fn plan_code(p: Result<Planned, Fault>) -> u32
     ensures { result ≡ plan_code p }
 {
     match p {
-        Planned::Refused(f) => f.number(),
-        Planned::TooMuch(_) => 7,
-        Planned::NoRoom(_, _) => 8,
-        Planned::NoPlan(_, _, _, _) => 9,
-        Planned::Found(_, _, _, _) => 0,
+        Err(f) => f.number(),
+        Ok(Planned::TooMuch { .. }) => 7,
+        Ok(Planned::NoRoom { .. }) => 8,
+        Ok(Planned::NoPlan { .. }) => 9,
+        Ok(Planned::Found { .. }) => 0,
     }
 }
 
 // Place, horizon, effort, rows and root.
-pub fn plan_numbers(p: Planned) -> [u32; 5]
+pub fn plan_numbers(p: Result<Planned, Fault>) -> [u32; 5]
     ensures { result ≡ plan_numbers p }
 {
     match p {
-        Planned::Refused(f) => [f.place(), 0, 0, 0, 0],
-        Planned::TooMuch(n) => [0, n, 0, 0, 0],
-        Planned::NoRoom(n, effort) => [0, n, effort, 0, 0],
-        Planned::NoPlan(n, effort, rows, root) => [0, n, effort, rows, root],
-        Planned::Found(n, effort, rows, root) => [0, n, effort, rows, root],
+        Err(f) => [f.place(), 0, 0, 0, 0],
+        Ok(Planned::TooMuch { horizon }) => [0, horizon, 0, 0, 0],
+        Ok(Planned::NoRoom { horizon, effort }) => [0, horizon, effort, 0, 0],
+        Ok(Planned::NoPlan { horizon, circuit }) => {
+            [0, horizon, circuit.effort, circuit.rows, circuit.root]
+        }
+        Ok(Planned::Found { horizon, circuit }) => {
+            [0, horizon, circuit.effort, circuit.rows, circuit.root]
+        }
     }
 }

@@ -5,12 +5,11 @@ use mathlib.Core.Bool.{true}
 use mathlib.Core.List.{List, []}
 use Prim.Native.Nat.{ℕ}
 use native.Mathlib.Omega.{arith}
-use Rattle.paper.specs.declared.Built.{Built}
 use Rattle.std.specs.Prelude.{Ok}
 use Rattle.paper.specs.Lists.{elem}
 use Rattle.paper.specs.Sheet.{Sheet, Fine, fits}
 use Rattle.paper.specs.Clauses.{Clauses, theory}
-use Rattle.paper.specs.Circuit.{vars, compile, built_of, value_at}
+use Rattle.paper.specs.Circuit.{vars, compile, Built, built_of, value_at}
 use Rattle.paper.specs.Operations.{room, long, kept, given, table_of}
 use Rattle.paper.specs.Answers.{told_at, compile_rows, compile_left, judge_left}
 use Rattle.paper.specs.Meaning.{shown, Extends}
@@ -39,13 +38,13 @@ pub built_projects : (literals ends T U : List ℕ) (limit : ℕ) (r : Built) �
     → r ≡ built_of limit (room T) (clauses_of literals ends)
     → U ≡ compile_rows (compile (clauses_of literals ends)).table T (Ok r)
     → Projects (clauses_of literals ends) U r
-built_projects literals ends T U limit r sound built filled e rows root whole keeps k =
+built_projects literals ends T U limit r sound built filled c whole keeps k =
     let S : Clauses = clauses_of literals ends in
-    let a = answered limit (room T) S e rows root (sym built ∙ whole) in
+    let a = answered limit (room T) S c (sym built ∙ whole) in
     let fit = sound_fits (λ y. elem y (vars S)) (λ y h. let l = vars_below literals ends sound y h in omega arith) (compile S).table (let l = a.within_room in let m = room_most T in omega arith) (table_fine S) in
     let left = filled ∙ ap (λ x. compile_rows (compile S).table T (Ok x)) whole in
-    let table_is : table_of U rows ≡ (compile S).table = (λ i. table_of (left i) (sym a.rows_are i)) ∙ filled_read (compile S).table fit T in
-    subst (λ t. (value_at (shown keeps k) t root ≡ true) ↔ Extends keeps k S) (sym table_is)
+    let table_is : table_of U c.rows ≡ (compile S).table = (λ i. table_of (left i) (sym a.rows_are i)) ∙ filled_read (compile S).table fit T in
+    subst (λ t. (value_at (shown keeps k) t c.root ≡ true) ↔ Extends keeps k S) (sym table_is)
     (subst (λ i. (value_at (shown keeps k) (compile S).table i ≡ true) ↔ Extends keeps k S) a.root_is (row_theorem S keeps k))
 
 -- the two calls, one after the other

@@ -7,6 +7,9 @@ use Prim.Native.Nat.{ℕ, zero, suc, ◌^◌, ◌≤◌, ◌<◌}
 use native.Mathlib.Omega.{arith}
 use lib.ListN.{length, get_or, take, drop}
 use lib.Seq.{take_at}
+use Rattle.std.specs.Prelude.{Result, Ok, Err}
+use Rattle.paper.specs.declared.Fault.{Fault}
+use Rattle.paper.specs.declared.Whole.{Whole}
 use Rattle.paper.specs.declared.Planned.{Planned}
 use Rattle.paper.specs.Lists.{elem}
 use Rattle.paper.specs.Counting.{worth, count_below}
@@ -14,9 +17,9 @@ use Rattle.paper.specs.Sheet.{Sheet, Fine, is_start, start_count}
 use Rattle.paper.specs.Step.{is_plan}
 use Rattle.paper.specs.Clauses.{theory}
 use Rattle.paper.specs.Circuit.{Table, compile, effort}
-use Rattle.paper.specs.Operations.{room, long, Schedule, valid, First, first_plan, Outcome, plan_of}
-use Rattle.paper.specs.Answers.{plan_code, plan_numbers, plan_schedule, told, told_at, plan_left}
-use Rattle.paper.specs.Planning.{Answered, AllPassed, Says}
+use Rattle.paper.specs.Operations.{room, long, Schedule, valid, First, first_plan, Outcome, plan_of, answer_of}
+use Rattle.paper.specs.Answers.{plan_code, plan_numbers, plan_schedule, schedule_after, told, told_at, plan_left}
+use Rattle.paper.specs.Planning.{Answered, AllPassed, Says, SaysOf}
 use Rattle.paper.proofs.Basic.{never}
 use Rattle.paper.proofs.Decoded.{decoded_fine}
 use Rattle.paper.proofs.FirstSchedule.{schedules_first}
@@ -30,7 +33,7 @@ use Rattle.demands.specs.Demands.{twenty}
 use Rattle.demands.specs.Plans as spec
 
 -- the code and the four numbers of an answer
-abbrev said : Planned → Told
+abbrev said : Result Planned Fault → Told
 said a = record {
   code = plan_code a;
   horizon = get_or (plan_numbers a) 1 0;
@@ -41,58 +44,51 @@ said a = record {
 
 -- ---- an answer that says what it is to say
 module _ (p : Sheet) (limit k : ℕ) (t : Table) (σ : Schedule) where
-  code_of : (a : Planned) → Says p limit k a t σ → elem (plan_code a) (0 ∷ 7 ∷ 8 ∷ 9 ∷ []) ≡ true
-  code_of (Planned.Refused f) h = absurd h
+  code_of : (a : Planned) → Says p limit k a t σ → elem (plan_code (Ok a)) (0 ∷ 7 ∷ 8 ∷ 9 ∷ []) ≡ true
   code_of (Planned.TooMuch n) h = refl
   code_of (Planned.NoRoom n e) h = refl
-  code_of (Planned.NoPlan n e r i) h = refl
-  code_of (Planned.Found n e r i) h = refl
+  code_of (Planned.NoPlan n c) h = refl
+  code_of (Planned.Found n c) h = refl
 
-  found_at : (a : Planned) → Says p limit k a t σ → plan_code a ≡ 0 → (n : ℕ) → (said a).horizon ≡ n → spec.InHand p limit k n × spec.Within p limit k n × spec.HasPlan p limit k n
-  found_at (Planned.Refused f) h c n q = absurd h
+  found_at : (a : Planned) → Says p limit k a t σ → plan_code (Ok a) ≡ 0 → (n : ℕ) → (said (Ok a)).horizon ≡ n → spec.InHand p limit k n × spec.Within p limit k n × spec.HasPlan p limit k n
   found_at (Planned.TooMuch m) h c n q = absurd (omega arith)
   found_at (Planned.NoRoom m e) h c n q = absurd (omega arith)
-  found_at (Planned.NoPlan m e r i) h c n q = absurd (omega arith)
-  found_at (Planned.Found m e r i) h c n q =
+  found_at (Planned.NoPlan m d) h c n q = absurd (omega arith)
+  found_at (Planned.Found m d) h c n q =
       subst (λ x. spec.InHand p limit k x × spec.Within p limit k x × spec.HasPlan p limit k x) q
       ((h.0, h.1), (h.2.within_effort, h.2.within_room), (σ, h.4.0, h.4.1))
 
-  none_at : (a : Planned) → Says p limit k a t σ → plan_code a ≡ 9 → (n : ℕ) → (said a).horizon ≡ n → (n ≡ p.H) × AllPassed p limit k (suc n)
-  none_at (Planned.Refused f) h c n q = absurd h
+  none_at : (a : Planned) → Says p limit k a t σ → plan_code (Ok a) ≡ 9 → (n : ℕ) → (said (Ok a)).horizon ≡ n → (n ≡ p.H) × AllPassed p limit k (suc n)
   none_at (Planned.TooMuch m) h c n q = absurd (omega arith)
   none_at (Planned.NoRoom m e) h c n q = absurd (omega arith)
-  none_at (Planned.NoPlan m e r i) h c n q = subst (λ x. (x ≡ p.H) × AllPassed p limit k (suc x)) q (h.0, h.1)
-  none_at (Planned.Found m e r i) h c n q = absurd (omega arith)
+  none_at (Planned.NoPlan m d) h c n q = subst (λ x. (x ≡ p.H) × AllPassed p limit k (suc x)) q (h.0, h.1)
+  none_at (Planned.Found m d) h c n q = absurd (omega arith)
 
-  effort_at_lem : (a : Planned) → Says p limit k a t σ → plan_code a ≡ 7 → (n : ℕ) → (said a).horizon ≡ n → spec.InHand p limit k n × spec.OverEffort p limit k n
-  effort_at_lem (Planned.Refused f) h c n q = absurd h
+  effort_at_lem : (a : Planned) → Says p limit k a t σ → plan_code (Ok a) ≡ 7 → (n : ℕ) → (said (Ok a)).horizon ≡ n → spec.InHand p limit k n × spec.OverEffort p limit k n
   effort_at_lem (Planned.TooMuch m) h c n q = subst (λ x. spec.InHand p limit k x × spec.OverEffort p limit k x) q ((h.0, h.1), h.2)
   effort_at_lem (Planned.NoRoom m e) h c n q = absurd (omega arith)
-  effort_at_lem (Planned.NoPlan m e r i) h c n q = absurd (omega arith)
-  effort_at_lem (Planned.Found m e r i) h c n q = absurd (omega arith)
+  effort_at_lem (Planned.NoPlan m d) h c n q = absurd (omega arith)
+  effort_at_lem (Planned.Found m d) h c n q = absurd (omega arith)
 
-  room_at : (a : Planned) → Says p limit k a t σ → plan_code a ≡ 8 → (n : ℕ) → (said a).horizon ≡ n → spec.InHand p limit k n × spec.OverRoom p limit k n
-  room_at (Planned.Refused f) h c n q = absurd h
+  room_at : (a : Planned) → Says p limit k a t σ → plan_code (Ok a) ≡ 8 → (n : ℕ) → (said (Ok a)).horizon ≡ n → spec.InHand p limit k n × spec.OverRoom p limit k n
   room_at (Planned.TooMuch m) h c n q = absurd (omega arith)
   room_at (Planned.NoRoom m e) h c n q = subst (λ x. spec.InHand p limit k x × spec.OverRoom p limit k x) q ((h.0, h.1), (h.2.0, h.3))
-  room_at (Planned.NoPlan m e r i) h c n q = absurd (omega arith)
-  room_at (Planned.Found m e r i) h c n q = absurd (omega arith)
+  room_at (Planned.NoPlan m d) h c n q = absurd (omega arith)
+  room_at (Planned.Found m d) h c n q = absurd (omega arith)
 
-  circuit_at : (a : Planned) → Says p limit k a t σ → elem (plan_code a) (0 ∷ 9 ∷ []) ≡ true → Answered limit k (theory p (said a).horizon) (said a).effort (said a).rows (said a).root
-  circuit_at (Planned.Refused f) h c = absurd h
+  circuit_at : (a : Planned) → Says p limit k a t σ → elem (plan_code (Ok a)) (0 ∷ 9 ∷ []) ≡ true → Answered limit k (theory p (said (Ok a)).horizon) (said (Ok a)).effort (said (Ok a)).rows (said (Ok a)).root
   circuit_at (Planned.TooMuch m) h c = never c refl
   circuit_at (Planned.NoRoom m e) h c = never c refl
-  circuit_at (Planned.NoPlan m e r i) h c = h.2
-  circuit_at (Planned.Found m e r i) h c = h.2
+  circuit_at (Planned.NoPlan m d) h c = h.2
+  circuit_at (Planned.Found m d) h c = h.2
 
   -- the schedule buffer begins with the schedule
-  first_at : (a : Planned) → Says p limit k a t σ → (buf : List ℕ) → plan_code a ≡ 0
-      → First (valid p.A (said a).horizon) (is_plan p) (some (take (said a).horizon (plan_schedule buf (record { answer = a; table = t; schedule = σ }) a)))
-  first_at (Planned.Refused f) h buf c = absurd h
+  first_at : (a : Planned) → Says p limit k a t σ → (buf : List ℕ) → plan_code (Ok a) ≡ 0
+      → First (valid p.A (said (Ok a)).horizon) (is_plan p) (some (take (said (Ok a)).horizon (schedule_after σ buf a)))
   first_at (Planned.TooMuch m) h buf c = absurd (omega arith)
   first_at (Planned.NoRoom m e) h buf c = absurd (omega arith)
-  first_at (Planned.NoPlan m e r i) h buf c = absurd (omega arith)
-  first_at (Planned.Found m e r i) h buf c =
+  first_at (Planned.NoPlan m d) h buf c = absurd (omega arith)
+  first_at (Planned.Found m d) h buf c =
       subst (λ τ. First (valid p.A m) (is_plan p) (some τ)) (sym (take_at σ (drop (length σ) buf) m (valid_fits p m σ h.4.0).0)) h.4
 
 -- ---- and nothing else is said
@@ -102,36 +98,36 @@ module _ (p : Sheet) (limit k : ℕ) where
   the_first n h (some σ) f = (σ, f)
 
   module _ (a : Planned) (t : Table) (σ : Schedule) (h : Says p limit k a t σ) where
-    is_found : (n : ℕ) → spec.InHand p limit k n × spec.Within p limit k n × spec.HasPlan p limit k n → (plan_code a ≡ 0) × ((said a).horizon ≡ n)
+    is_found : (n : ℕ) → spec.InHand p limit k n × spec.Within p limit k n × spec.HasPlan p limit k n → (plan_code (Ok a) ≡ 0) × ((said (Ok a)).horizon ≡ n)
     unfolding first_plan
     is_found n w =
         let f = the_first n w.2 (first_plan p n) (schedules_first p.A n (is_plan p)) in
         let c : Answered limit k (theory p n) (effort (theory p n)) (length (compile (theory p n)).table) (compile (theory p n)).root =
         record { effort_is = refl; rows_are = refl; root_is = refl; within_effort = w.1.0; within_room = w.1.1 } in
-        let e = paper.says_one p limit k a (Planned.Found n (effort (theory p n)) (length (compile (theory p n)).table) (compile (theory p n)).root) t (compile (theory p n)).table σ f.0 h
+        let e = paper.says_one p limit k a (Planned.Found n (record { effort = effort (theory p n); rows = length (compile (theory p n)).table; root = (compile (theory p n)).root })) t (compile (theory p n)).table σ f.0 h
         (w.0.0, w.0.1, c, refl, f.1) in
-        (ap plan_code e, ap (λ x. (said x).horizon) e)
+        (ap (λ x. plan_code (Ok x)) e, ap (λ x. (said (Ok x)).horizon) e)
 
-    is_none : (n : ℕ) → (n ≡ p.H) × AllPassed p limit k (suc n) → (plan_code a ≡ 9) × ((said a).horizon ≡ n)
+    is_none : (n : ℕ) → (n ≡ p.H) × AllPassed p limit k (suc n) → (plan_code (Ok a) ≡ 9) × ((said (Ok a)).horizon ≡ n)
     is_none n w =
         let l = w.1 n (omega arith) in
         let c : Answered limit k (theory p n) (effort (theory p n)) (length (compile (theory p n)).table) (compile (theory p n)).root =
         record { effort_is = refl; rows_are = refl; root_is = refl; within_effort = l.0; within_room = l.1 } in
-        let e = paper.says_one p limit k a (Planned.NoPlan n (effort (theory p n)) (length (compile (theory p n)).table) (compile (theory p n)).root) t (compile (theory p n)).table σ [] h
+        let e = paper.says_one p limit k a (Planned.NoPlan n (record { effort = effort (theory p n); rows = length (compile (theory p n)).table; root = (compile (theory p n)).root })) t (compile (theory p n)).table σ [] h
         (w.0, w.1, c, refl) in
-        (ap plan_code e, ap (λ x. (said x).horizon) e)
+        (ap (λ x. plan_code (Ok x)) e, ap (λ x. (said (Ok x)).horizon) e)
 
-    is_effort : (n : ℕ) → spec.InHand p limit k n × spec.OverEffort p limit k n → (plan_code a ≡ 7) × ((said a).horizon ≡ n)
+    is_effort : (n : ℕ) → spec.InHand p limit k n × spec.OverEffort p limit k n → (plan_code (Ok a) ≡ 7) × ((said (Ok a)).horizon ≡ n)
     is_effort n w =
         let e = paper.says_one p limit k a (Planned.TooMuch n) t [] σ [] h (w.0.0, w.0.1, w.1) in
-        (ap plan_code e, ap (λ x. (said x).horizon) e)
+        (ap (λ x. plan_code (Ok x)) e, ap (λ x. (said (Ok x)).horizon) e)
 
-    is_room : (n : ℕ) → spec.InHand p limit k n × spec.OverRoom p limit k n → (plan_code a ≡ 8) × ((said a).horizon ≡ n)
+    is_room : (n : ℕ) → spec.InHand p limit k n × spec.OverRoom p limit k n → (plan_code (Ok a) ≡ 8) × ((said (Ok a)).horizon ≡ n)
     is_room n w =
         let e = paper.says_one p limit k a (Planned.NoRoom n (effort (theory p n))) t [] σ [] h (w.0.0, w.0.1, (w.1.0, refl), w.1.1) in
-        (ap plan_code e, ap (λ x. (said x).horizon) e)
+        (ap (λ x. plan_code (Ok x)) e, ap (λ x. (said (Ok x)).horizon) e)
 
-    says_planned : (buf : List ℕ) → spec.Tells p limit k (said a) (plan_schedule buf (record { answer = a; table = t; schedule = σ }) a)
+    says_planned : (buf : List ℕ) → spec.Tells p limit k (said (Ok a)) (schedule_after σ buf a)
     says_planned buf = record {
       codes = code_of p limit k t σ a h;
       least = λ n. ((λ w. found_at p limit k t σ a h w.0 n w.1), is_found n);
@@ -143,12 +139,12 @@ module _ (p : Sheet) (limit k : ℕ) where
     }
 
 -- ---- the numbers as they are told: each is a 32-bit number
-five : (a : Planned) → length (plan_numbers a) ≡ 5
-five (Planned.Refused f) = refl
-five (Planned.TooMuch n) = refl
-five (Planned.NoRoom n e) = refl
-five (Planned.NoPlan n e r i) = refl
-five (Planned.Found n e r i) = refl
+five : (a : Result Planned Fault) → length (plan_numbers a) ≡ 5
+five (Err f) = refl
+five (Ok (Planned.TooMuch n)) = refl
+five (Ok (Planned.NoRoom n e)) = refl
+five (Ok (Planned.NoPlan n c)) = refl
+five (Ok (Planned.Found n c)) = refl
 
 Small : Told → Type 0
 Small r = (r.horizon < 4294967296) × (r.effort < 4294967296) × (r.rows < 4294967296) × (r.root < 4294967296)
@@ -164,19 +160,18 @@ module _ (p : Sheet) (fine : Fine p) (limit : ℕ) (word : limit < 4294967296) (
       let z = a.within_effort in
       (omega arith, omega arith, omega arith, omega arith)
 
-  small : (a : Planned) → Says p limit (room buf) a t σ → Small (said a)
+  small : (a : Planned) → Says p limit (room buf) a t σ → Small (said (Ok a))
   unfolding Small
-  small (Planned.Refused f) h = absurd h
   small (Planned.TooMuch n) h = let l = h.0 in let x = fine.horizon_most in (omega arith, omega arith, omega arith, omega arith)
   small (Planned.NoRoom n e) h =
       let l = h.0 in let x = fine.horizon_most in let y = h.2.0 in let z = h.2.1 in (omega arith, omega arith, omega arith, omega arith)
-  small (Planned.NoPlan n e r i) h = whole_small n e r i (let x = h.0 in omega arith) h.2
-  small (Planned.Found n e r i) h = whole_small n e r i h.0 h.2
+  small (Planned.NoPlan n c) h = whole_small n c.effort c.rows c.root (let x = h.0 in omega arith) h.2
+  small (Planned.Found n c) h = whole_small n c.effort c.rows c.root h.0 h.2
 
-told_at_lem : (a : Planned) (i : ℕ) → i < 5 → get_or (plan_numbers a) i 0 < 4294967296 → told_at (told (plan_numbers a) twenty) i ≡ get_or (plan_numbers a) i 0
+told_at_lem : (a : Result Planned Fault) (i : ℕ) → i < 5 → get_or (plan_numbers a) i 0 < 4294967296 → told_at (told (plan_numbers a) twenty) i ≡ get_or (plan_numbers a) i 0
 told_at_lem a i l w = let f = five a in told_read (plan_numbers a) twenty i (omega arith) (omega arith) w
 
-told_said : (a : Planned) → Small (said a)
+told_said : (a : Result Planned Fault) → Small (said a)
     → record {
       code = plan_code a;
       horizon = told_at (told (plan_numbers a) twenty) 1;
@@ -212,15 +207,28 @@ pub told_demand : (b : List ℕ) (limit : ℕ) → limit < 4294967296 → (buf s
     → spec.Demand2 b limit (room buf) (length sch) (spec.told_of b limit buf sch) (plan_left b limit buf sch twenty).schedule
 unfolding spec.told_of plan_left start_count
 told_demand b limit word buf sch =
-    let o : Outcome = plan_of b limit (room buf) (length sch) in
+    let k = room buf in
+    let bytes = length sch in
     record {
-      short = λ p d l. ap (λ x. plan_code x.answer) (paper.plan_short b p d limit (room buf) (length sch) l);
-      no_start = λ p d l z. ap (λ x. plan_code x.answer) (paper.plan_no_start b p d limit (room buf) (length sch) l (count_zero (2 ^ p.F) (is_start p) z)).0;
-      planned = λ p d l s hs e.
-          let says = paper.demand2 b p d limit (room buf) (length sch) l (some_start p s hs e) in
-          subst (λ r. spec.Tells p limit (room buf) r (plan_schedule sch o o.answer)) (sym (told_said o.answer (small p (decoded_fine b p d) limit word buf o.table o.schedule o.answer says)))
-          (says_planned p limit (room buf) o.answer o.table o.schedule says sch);
+      short = λ p d l. ap (λ x. plan_code (answer_of x)) (paper.plan_short b p d limit k bytes l);
+      no_start = λ p d l z. ap (λ x. plan_code (answer_of x)) (paper.plan_no_start b p d limit k bytes l (count_zero (2 ^ p.F) (is_start p) z)).0;
+      planned = λ p d l s hs e. tells p (decoded_fine b p d) (plan_of b limit k bytes) (paper.demand2 b p d limit k bytes l (some_start p s hs e));
     }
+  where
+    told_from : Result Planned Fault → Told
+    told_from a = record {
+      code = plan_code a;
+      horizon = told_at (told (plan_numbers a) twenty) 1;
+      effort = told_at (told (plan_numbers a) twenty) 2;
+      rows = told_at (told (plan_numbers a) twenty) 3;
+      root = told_at (told (plan_numbers a) twenty) 4;
+    }
+
+    tells : (p : Sheet) → Fine p → (o : Result Outcome Fault) → SaysOf p limit (room buf) o → spec.Tells p limit (room buf) (told_from (answer_of o)) (plan_schedule sch o)
+    tells p fine (Err f) h = absurd h
+    tells p fine (Ok o) h =
+        subst (λ r. spec.Tells p limit (room buf) r (plan_schedule sch (Ok o))) (sym (told_said (Ok o.answer) (small p fine limit word buf o.table o.schedule o.answer h)))
+        (says_planned p limit (room buf) o.answer o.table o.schedule h sch)
 
 -- the call, and the four numbers read from its answer slice
 pub told_is : (b : List ℕ) (limit : ℕ) (buf sch : List ℕ) (code horizon effort rows root : ℕ) (answer : List ℕ)

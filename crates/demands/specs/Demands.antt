@@ -1,12 +1,11 @@
 -- What is demanded of the circuit, in the words of `paper`: of the clauses that stand in arrays, of the rows that compile leaves, of the answers that C gets.
 -- Assumes nothing.
 use Rattle.std.specs.Prelude.{◌≡◌, ◌↔◌, Bool, true, cond, List, map, ℕ, ◌*◌, ◌^◌, ◌≤◌, ◌<◌, length, replicate, Ok}
-use Rattle.paper.specs.declared.Built.{Built}
-use Rattle.paper.specs.declared.Built.TheVariants.{Whole}
+use Rattle.paper.specs.declared.Whole.{Whole}
 use Rattle.paper.specs.Lists.{all, up_from}
 use Rattle.paper.specs.Sheet.{Sheet, fits, decode}
 use Rattle.paper.specs.Clauses.{Clauses, Assign}
-use Rattle.paper.specs.Circuit.{value_at}
+use Rattle.paper.specs.Circuit.{Built, value_at}
 use Rattle.paper.specs.Operations.{kept, given, table_of, masks_of}
 use Rattle.paper.specs.Answers.{told_at, compile_left, judge_left}
 use Rattle.paper.specs.Sets.{leads}
@@ -28,8 +27,8 @@ Runs p n literals ends m = (s : ℕ) (ms : List ℕ) → Marked p n s ms
 
 -- the circuit is the projection: for any variables that are kept, and values of theirs
 abbrev pub Projects : Clauses → List ℕ → Built → Type 0
-Projects S table r = (e rows root : ℕ) → r ≡ Whole e rows root → (keeps : ℕ → Bool) (k : Assign)
-    → (value_at (shown keeps k) (table_of table rows) root ≡ true) ↔ Extends keeps k S
+Projects S table r = (c : Whole) → r ≡ Ok c → (keeps : ℕ → Bool) (k : Assign)
+    → (value_at (shown keeps k) (table_of table c.rows) c.root ≡ true) ↔ Extends keeps k S
 
 -- answer slices for the five numbers of compile and for the two of judge
 abbrev pub twenty : List ℕ

@@ -11,7 +11,7 @@ use Rattle.paper.specs.Sheet.{decode, computed_sheet}
 use Rattle.paper.specs.Step.{computed_step}
 use Rattle.paper.specs.Clauses.{Clause, theory, computed_clauses}
 use Rattle.paper.specs.Circuit.{computed_circuit}
-use Rattle.paper.specs.Operations.{on_sheet, bytes4, check_of, run_of, compile_of, judge_of, plan_of, computed_operations}
+use Rattle.paper.specs.Operations.{on_sheet, bytes4, check_of, run_of, compile_of, judge_of, plan_of, answer_of, schedule_of, computed_operations}
 use Rattle.paper.specs.Answers.{code, check_numbers, run_numbers, compile_code, compile_numbers, judge_numbers, plan_code, plan_numbers, check_left, compile_left, plan_left, computed_answers}
 use Rattle.paper.specs.Program.{decimal, printed, computed_program}
 use Rattle.paper.proofs.Sheets.{D, need, rule, clause, sheet, largest, like_d, one_action, goals}
@@ -47,7 +47,7 @@ reply (check b) = let a = check_of b in code a ∷ check_numbers a
 reply (run b s σ) = let a = run_of b s σ in code a ∷ run_numbers a
 reply (compile b n limit room) = let a = compile_of b n limit room in compile_code a ∷ compile_numbers n a
 reply (judge b n ns k root s masks) = let a = judge_of b n (each ns bytes4) k root s masks in code a ∷ judge_numbers a
-reply (plan b limit room n) = let o = plan_of b limit room n in plan_code o.answer ∷ plan_numbers o.answer ++ o.schedule
+reply (plan b limit room n) = let o = plan_of b limit room n in plan_code (answer_of o) ∷ plan_numbers (answer_of o) ++ schedule_of o
 reply (slice_after b slice) = (check_left b slice).answer
 reply (rows_after b n limit buf) = (compile_left b n limit buf []).rows
 reply (plan_after b limit buf sch) = let o = plan_left b limit buf sch [] in o.rows ++ o.schedule

@@ -3,13 +3,14 @@
 use Rattle.std.specs.Prelude.{Bool, cond, List, [], ◌∷◌, ◌++◌, ℕ, ◌-◌, ◌*◌, ltb, length, drop, replicate, Result, Ok, Err}
 use Rattle.paper.specs.declared.Fault.{Fault}
 use Rattle.paper.specs.declared.Ended.{Ended}
-use Rattle.paper.specs.declared.Built.{Built}
+use Rattle.paper.specs.declared.Limit.{Limit}
+use Rattle.paper.specs.declared.Limit.TheVariants.{TooMuch, NoRoom}
 use Rattle.paper.specs.declared.Planned.{Planned}
 use Rattle.paper.specs.Lists.{each}
 use Rattle.paper.specs.Sheet.{decode}
 use Rattle.paper.specs.Clauses.{theory}
-use Rattle.paper.specs.Circuit.{Table, compile}
-use Rattle.paper.specs.Operations.{on_sheet, long, bytes4, row_size, row_bytes, room, check_of, run_of, compile_of, judge_of, Outcome, plan_of}
+use Rattle.paper.specs.Circuit.{Table, compile, Built}
+use Rattle.paper.specs.Operations.{on_sheet, long, bytes4, row_size, row_bytes, room, check_of, run_of, compile_of, judge_of, Outcome, plan_of, answer_of}
 
 -- ---- refusals: the number, and the place of 4 and 11
 abbrev pub fault_code : Fault → ℕ
@@ -33,18 +34,22 @@ abbrev pub code : {T : Type 0} → Result T Fault → ℕ
 code (Err f) = fault_code f
 code (Ok x) = 0
 
+-- a limit that was passed
+abbrev pub limit_code : Limit → ℕ
+limit_code TooMuch = 7
+limit_code (NoRoom e) = 8
+
 abbrev pub compile_code : Result Built Fault → ℕ
 compile_code (Err f) = fault_code f
-compile_code (Ok Built.TooMuch) = 7
-compile_code (Ok (Built.NoRoom e)) = 8
-compile_code (Ok (Built.Whole e k i)) = 0
+compile_code (Ok (Err l)) = limit_code l
+compile_code (Ok (Ok c)) = 0
 
-abbrev pub plan_code : Planned → ℕ
-plan_code (Planned.Refused f) = fault_code f
-plan_code (Planned.TooMuch n) = 7
-plan_code (Planned.NoRoom n e) = 8
-plan_code (Planned.NoPlan n e k i) = 9
-plan_code (Planned.Found n e k i) = 0
+abbrev pub plan_code : Result Planned Fault → ℕ
+plan_code (Err f) = fault_code f
+plan_code (Ok (Planned.TooMuch n)) = 7
+plan_code (Ok (Planned.NoRoom n e)) = 8
+plan_code (Ok (Planned.NoPlan n c)) = 9
+plan_code (Ok (Planned.Found n c)) = 0
 
 -- ---- the numbers: place first, those not named are 0
 -- check: place, count
@@ -60,9 +65,9 @@ run_numbers (Ok e) = 0 ∷ e.done ∷ e.state ∷ cond e.goal 1 0 ∷ []
 -- compile at horizon n: place, horizon, effort, rows, root
 abbrev pub compile_numbers : ℕ → Result Built Fault → List ℕ
 compile_numbers n (Err f) = fault_place f ∷ 0 ∷ 0 ∷ 0 ∷ 0 ∷ []
-compile_numbers n (Ok Built.TooMuch) = 0 ∷ n ∷ 0 ∷ 0 ∷ 0 ∷ []
-compile_numbers n (Ok (Built.NoRoom e)) = 0 ∷ n ∷ e ∷ 0 ∷ 0 ∷ []
-compile_numbers n (Ok (Built.Whole e k i)) = 0 ∷ 0 ∷ e ∷ k ∷ i ∷ []
+compile_numbers n (Ok (Err TooMuch)) = 0 ∷ n ∷ 0 ∷ 0 ∷ 0 ∷ []
+compile_numbers n (Ok (Err (NoRoom e))) = 0 ∷ n ∷ e ∷ 0 ∷ 0 ∷ []
+compile_numbers n (Ok (Ok c)) = 0 ∷ 0 ∷ c.effort ∷ c.rows ∷ c.root ∷ []
 
 -- judge: place, value as 1 or 0
 abbrev pub judge_numbers : Result Bool Fault → List ℕ
@@ -70,12 +75,12 @@ judge_numbers (Err f) = fault_place f ∷ 0 ∷ []
 judge_numbers (Ok v) = 0 ∷ cond v 1 0 ∷ []
 
 -- plan: place, horizon, effort, rows, root
-abbrev pub plan_numbers : Planned → List ℕ
-plan_numbers (Planned.Refused f) = fault_place f ∷ 0 ∷ 0 ∷ 0 ∷ 0 ∷ []
-plan_numbers (Planned.TooMuch n) = 0 ∷ n ∷ 0 ∷ 0 ∷ 0 ∷ []
-plan_numbers (Planned.NoRoom n e) = 0 ∷ n ∷ e ∷ 0 ∷ 0 ∷ []
-plan_numbers (Planned.NoPlan n e k i) = 0 ∷ n ∷ e ∷ k ∷ i ∷ []
-plan_numbers (Planned.Found n e k i) = 0 ∷ n ∷ e ∷ k ∷ i ∷ []
+abbrev pub plan_numbers : Result Planned Fault → List ℕ
+plan_numbers (Err f) = fault_place f ∷ 0 ∷ 0 ∷ 0 ∷ 0 ∷ []
+plan_numbers (Ok (Planned.TooMuch n)) = 0 ∷ n ∷ 0 ∷ 0 ∷ 0 ∷ []
+plan_numbers (Ok (Planned.NoRoom n e)) = 0 ∷ n ∷ e ∷ 0 ∷ 0 ∷ []
+plan_numbers (Ok (Planned.NoPlan n c)) = 0 ∷ n ∷ c.effort ∷ c.rows ∷ c.root ∷ []
+plan_numbers (Ok (Planned.Found n c)) = 0 ∷ n ∷ c.effort ∷ c.rows ∷ c.root ∷ []
 
 -- ---- the answer slice: four bytes each, low byte first, as many as fit whole
 unfoldable pub told : List ℕ → List ℕ → List ℕ
@@ -95,24 +100,30 @@ filled t buf =
 -- after 7 or 8 all rows within room are zero; after 0 it holds the circuit; after any other number it is untouched
 abbrev pub compile_rows : Table → List ℕ → Result Built Fault → List ℕ
 compile_rows t buf (Err f) = buf
-compile_rows t buf (Ok Built.TooMuch) = filled [] buf
-compile_rows t buf (Ok (Built.NoRoom e)) = filled [] buf
-compile_rows t buf (Ok (Built.Whole e k i)) = filled t buf
+compile_rows t buf (Ok (Err TooMuch)) = filled [] buf
+compile_rows t buf (Ok (Err (NoRoom e))) = filled [] buf
+compile_rows t buf (Ok (Ok c)) = filled t buf
 
-abbrev pub plan_rows : List ℕ → Outcome → Planned → List ℕ
-plan_rows buf o (Planned.Refused f) = buf
-plan_rows buf o (Planned.TooMuch n) = filled [] buf
-plan_rows buf o (Planned.NoRoom n e) = filled [] buf
-plan_rows buf o (Planned.NoPlan n e k i) = filled o.table buf
-plan_rows buf o (Planned.Found n e k i) = filled o.table buf
+abbrev pub rows_after : Table → List ℕ → Planned → List ℕ
+rows_after t buf (Planned.TooMuch n) = filled [] buf
+rows_after t buf (Planned.NoRoom n e) = filled [] buf
+rows_after t buf (Planned.NoPlan n c) = filled t buf
+rows_after t buf (Planned.Found n c) = filled t buf
+
+abbrev pub plan_rows : List ℕ → Result Outcome Fault → List ℕ
+plan_rows buf (Err f) = buf
+plan_rows buf (Ok o) = rows_after o.table buf o.answer
 
 -- of the schedule buffer only the first n bytes are written, and only on 0
-abbrev pub plan_schedule : List ℕ → Outcome → Planned → List ℕ
-plan_schedule buf o (Planned.Refused f) = buf
-plan_schedule buf o (Planned.TooMuch n) = buf
-plan_schedule buf o (Planned.NoRoom n e) = buf
-plan_schedule buf o (Planned.NoPlan n e k i) = buf
-plan_schedule buf o (Planned.Found n e k i) = o.schedule ++ drop (length o.schedule) buf
+abbrev pub schedule_after : List ℕ → List ℕ → Planned → List ℕ
+schedule_after σ buf (Planned.TooMuch n) = buf
+schedule_after σ buf (Planned.NoRoom n e) = buf
+schedule_after σ buf (Planned.NoPlan n c) = buf
+schedule_after σ buf (Planned.Found n c) = σ ++ drop (length σ) buf
+
+abbrev pub plan_schedule : List ℕ → Result Outcome Fault → List ℕ
+plan_schedule buf (Err f) = buf
+plan_schedule buf (Ok o) = schedule_after o.schedule buf o.answer
 
 -- ---- what a call leaves: the code that it returns, and the buffers that it may write
 pub record Left : Type 0 where
@@ -153,8 +164,8 @@ judge_left b n buf k root s masks slice =
 unfoldable pub plan_left : List ℕ → ℕ → List ℕ → List ℕ → List ℕ → LeftPlan
 plan_left b limit buf sch slice =
     let o = plan_of b limit (room buf) (length sch) in
-    let a = o.answer in
-    record { code = plan_code a; answer = told (plan_numbers a) slice; rows = plan_rows buf o a; schedule = plan_schedule sch o a }
+    let a = answer_of o in
+    record { code = plan_code a; answer = told (plan_numbers a) slice; rows = plan_rows buf o; schedule = plan_schedule sch o }
 
 -- a proof by computation says `unfolding computed_answers`, which opens every definition of this module
 unfoldable pub computed_answers : ℕ

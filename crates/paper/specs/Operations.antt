@@ -9,14 +9,15 @@ use Rattle.paper.specs.declared.Run.{Run}
 use Rattle.paper.specs.declared.Fault.{Fault}
 use Rattle.paper.specs.declared.Fault.TheVariants.{ShortSchedule, NoStart, BadCall, BadTable}
 use Rattle.paper.specs.declared.Ended.{Ended}
-use Rattle.paper.specs.declared.Built.{Built}
+use Rattle.paper.specs.declared.Whole.{Whole}
+use Rattle.paper.specs.declared.Limit.TheVariants.{TooMuch, NoRoom}
 use Rattle.paper.specs.declared.Planned.{Planned}
 use Rattle.paper.specs.Lists.{all, filter, each, up_from}
 use Rattle.paper.specs.Counting.{bit}
 use Rattle.paper.specs.Sheet.{Sheet, word, fits, decode, is_goal, start_count}
 use Rattle.paper.specs.Step.{run, entries_fit, is_plan}
 use Rattle.paper.specs.Clauses.{Assign, holds, stride, variables, theory}
-use Rattle.paper.specs.Circuit.{row_numbers, same_numbers, Table, compile, built_of, value_at}
+use Rattle.paper.specs.Circuit.{row_numbers, same_numbers, Table, compile, Built, built_of, value_at}
 
 -- what follows a step, unless that is refused
 infixl 10 ◌>>=◌
@@ -199,37 +200,46 @@ abbrev pub stopped : Planned → Outcome
 stopped a = record { answer = a; table = []; schedule = [] }
 
 -- the first schedule, or what follows where there is none
-abbrev pub searched : Sheet → ℕ → ℕ → ℕ → ℕ → Outcome → Option Schedule → Outcome
-searched p n e k i next none = next
-searched p n e k i next (some σ) = record { answer = Planned.Found n e k i; table = (compile (theory p n)).table; schedule = σ }
+abbrev pub searched : Sheet → ℕ → Whole → Outcome → Option Schedule → Outcome
+searched p n c next none = next
+searched p n c next (some σ) = record { answer = Planned.Found n c; table = (compile (theory p n)).table; schedule = σ }
 
-abbrev pub at_horizon : Sheet → ℕ → (ℕ → ℕ → ℕ → Outcome) → Built → Outcome
-at_horizon p n next Built.TooMuch = stopped (Planned.TooMuch n)
-at_horizon p n next (Built.NoRoom e) = stopped (Planned.NoRoom n e)
-at_horizon p n next (Built.Whole e k i) = let o = next e k i in searched p n e k i o (first_plan p n)
+abbrev pub at_horizon : Sheet → ℕ → (Whole → Outcome) → Built → Outcome
+at_horizon p n next (Err TooMuch) = stopped (Planned.TooMuch n)
+at_horizon p n next (Err (NoRoom e)) = stopped (Planned.NoRoom n e)
+at_horizon p n next (Ok c) = let o = next c in searched p n c o (first_plan p n)
 
 -- no plan up to H, with the circuit of H
-abbrev pub no_plan : Sheet → ℕ → ℕ → ℕ → ℕ → Outcome
-no_plan p n e k i = record { answer = Planned.NoPlan n e k i; table = (compile (theory p n)).table; schedule = [] }
+abbrev pub no_plan : Sheet → ℕ → Whole → Outcome
+no_plan p n c = record { answer = Planned.NoPlan n c; table = (compile (theory p n)).table; schedule = [] }
 
 -- from horizon n on, with h horizons after it; k is room
 unfoldable pub plan_from : Sheet → ℕ → ℕ → ℕ → ℕ → Outcome
 plan_from p limit k zero n = at_horizon p n (no_plan p n) (built_of limit k (theory p n))
-plan_from p limit k (suc h) n = let o = plan_from p limit k h (n + 1) in at_horizon p n (λ e j i. o) (built_of limit k (theory p n))
+plan_from p limit k (suc h) n = let o = plan_from p limit k h (n + 1) in at_horizon p n (λ c. o) (built_of limit k (theory p n))
 
 -- no start is refused
-abbrev pub plan_starts : ℕ → Outcome → Outcome
-plan_starts zero o = stopped (Planned.Refused NoStart)
-plan_starts (suc n) o = o
+abbrev pub plan_starts : ℕ → Outcome → Result Outcome Fault
+plan_starts zero o = Err NoStart
+plan_starts (suc n) o = Ok o
 
 -- a schedule buffer of fewer than H bytes is refused
-abbrev pub plan_sheet : ℕ → ℕ → ℕ → Sheet → Outcome
+abbrev pub plan_sheet : ℕ → ℕ → ℕ → Sheet → Result Outcome Fault
 plan_sheet limit k bytes p =
-    let o = plan_from p limit k p.H 0 in cond (leb p.H bytes) (plan_starts (start_count p) o) (stopped (Planned.Refused ShortSchedule))
+    let o = plan_from p limit k p.H 0 in cond (leb p.H bytes) (plan_starts (start_count p) o) (Err ShortSchedule)
 
 -- effort limit, room, bytes of the schedule buffer
-unfoldable pub plan_of : List ℕ → ℕ → ℕ → ℕ → Outcome
-plan_of b limit k bytes = on_sheet (λ f. stopped (Planned.Refused f)) (plan_sheet limit k bytes) (decode b)
+unfoldable pub plan_of : List ℕ → ℕ → ℕ → ℕ → Result Outcome Fault
+plan_of b limit k bytes = decode b >>= plan_sheet limit k bytes
+
+-- the answer alone, and the schedule, which a refusal has none of
+abbrev pub answer_of : Result Outcome Fault → Result Planned Fault
+answer_of (Err f) = Err f
+answer_of (Ok o) = Ok o.answer
+
+abbrev pub schedule_of : Result Outcome Fault → Schedule
+schedule_of (Err f) = []
+schedule_of (Ok o) = o.schedule
 
 -- a proof by computation says `unfolding computed_operations`, which opens every definition of this module
 unfoldable pub computed_operations : ℕ

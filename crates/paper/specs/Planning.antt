@@ -1,7 +1,8 @@
 -- What the planner's answers are to say: the words of demand 2.
 -- Assumes nothing.
-use Rattle.std.specs.Prelude.{◌≡◌, ℕ, suc, ◌≤◌, ◌<◌, length}
+use Rattle.std.specs.Prelude.{◌≡◌, ℕ, suc, ◌≤◌, ◌<◌, length, Result, Ok, Err}
 use Rattle.std.proofs.Math.Option.{none, some}
+use Rattle.paper.specs.declared.Fault.{Fault}
 use Rattle.paper.specs.declared.Planned.{Planned}
 use Rattle.paper.specs.Sheet.{Sheet}
 use Rattle.paper.specs.Step.{is_plan}
@@ -32,14 +33,15 @@ module _ (p : Sheet) (limit k : ℕ) where
   -- what each answer says: 7 and 8 exactly by the counts of the horizon in hand, no smaller horizon with a plan; 9 only if none exists up to H;
   -- 0 with the least horizon, and its first plan
   abbrev pub Says : Planned → Table → Schedule → Type 0
-  Says (Planned.Refused f) t σ = ⊥
   Says (Planned.TooMuch n) t σ = (n ≤ p.H) × AllPassed n × (limit < effort (theory p n))
   Says (Planned.NoRoom n e) t σ =
       (n ≤ p.H) × AllPassed n × ((effort (theory p n) ≤ limit) × (effort (theory p n) ≡ e)) × (k < length (compile (theory p n)).table)
-  Says (Planned.NoPlan n e rows root) t σ =
-      (n ≡ p.H) × AllPassed (suc n) × Answered limit k (theory p n) e rows root × (t ≡ (compile (theory p n)).table)
-  Says (Planned.Found n e rows root) t σ =
-      (n ≤ p.H) × AllPassed n × Answered limit k (theory p n) e rows root × (t ≡ (compile (theory p n)).table) × First (valid p.A n) (is_plan p) (some σ)
+  Says (Planned.NoPlan n c) t σ =
+      (n ≡ p.H) × AllPassed (suc n) × Answered limit k (theory p n) c.effort c.rows c.root × (t ≡ (compile (theory p n)).table)
+  Says (Planned.Found n c) t σ =
+      (n ≤ p.H) × AllPassed n × Answered limit k (theory p n) c.effort c.rows c.root × (t ≡ (compile (theory p n)).table) × First (valid p.A n) (is_plan p) (some σ)
 
-  abbrev pub SaysOf : Outcome → Type 0
-  SaysOf o = Says o.answer o.table o.schedule
+  -- and that it is no refusal
+  abbrev pub SaysOf : Result Outcome Fault → Type 0
+  SaysOf (Err f) = ⊥
+  SaysOf (Ok o) = Says o.answer o.table o.schedule

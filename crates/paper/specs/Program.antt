@@ -1,8 +1,9 @@
 -- The program: the line that it prints for the bytes that it reads.
 -- Assumes nothing.
-use Rattle.std.specs.Prelude.{cond, List, [], ◌∷◌, ◌++◌, ℕ, zero, suc, ◌+◌, ◌/◌, ◌%◌, ltb, length, get_or}
+use Rattle.std.specs.Prelude.{cond, List, [], ◌∷◌, ◌++◌, ℕ, zero, suc, ◌+◌, ◌/◌, ◌%◌, ltb, length, get_or, Result}
+use Rattle.paper.specs.declared.Fault.{Fault}
 use Rattle.paper.specs.Lists.{each}
-use Rattle.paper.specs.Operations.{Outcome, plan_of}
+use Rattle.paper.specs.Operations.{Outcome, plan_of, answer_of, schedule_of}
 use Rattle.paper.specs.Answers.{plan_code, plan_numbers}
 
 -- a number of at most k digits in decimal: the last digit behind those of the tenth part
@@ -22,8 +23,8 @@ unfoldable pub line : ℕ → List ℕ → List ℕ
 line n ns = decimal n ++ each ns spaced ++ (10 ∷ [])
 
 -- code, place, horizon and the schedule's entries
-abbrev pub plan_line : Outcome → List ℕ
-plan_line o = line (plan_code o.answer) (get_or (plan_numbers o.answer) 0 0 ∷ get_or (plan_numbers o.answer) 1 0 ∷ o.schedule)
+abbrev pub plan_line : Result Outcome Fault → List ℕ
+plan_line o = let a = answer_of o in line (plan_code a) (get_or (plan_numbers a) 0 0 ∷ get_or (plan_numbers a) 1 0 ∷ schedule_of o)
 
 -- effort limit 1,000,000 and 4,000 rows; input over 4,608 bytes prints 3 0 0
 unfoldable pub printed : List ℕ → List ℕ

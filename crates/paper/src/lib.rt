@@ -5,10 +5,10 @@ ghost use Rattle.std.specs.Prelude.{◌≡◌, ◌<◌};
 ghost use Rattle.paper.specs.Counting.{before, after};
 
 // Moments run 0..n and steps 0..n-1: two counts, of two types.
-#[derive(Clone, Copy)]
+#[derive(Clone, Copy, Debug, PartialEq, Eq)]
 pub struct Moment(pub usize);
 
-#[derive(Clone, Copy)]
+#[derive(Clone, Copy, Debug, PartialEq, Eq)]
 pub struct Step(pub usize);
 
 impl Moment {
@@ -45,7 +45,7 @@ impl Step {
 }
 
 // A sheet's trailer: how many facts, actions, rules, start clauses and goal clauses; the horizon; the bytes back to the body.
-#[derive(Clone, Copy)]
+#[derive(Clone, Copy, Debug, PartialEq, Eq)]
 pub struct Trailer {
     pub facts: usize,
     pub actions: usize,
@@ -57,14 +57,14 @@ pub struct Trailer {
 }
 
 // A variable of T(P), or its opposite.
-#[derive(Clone, Copy, PartialEq, Eq)]
+#[derive(Clone, Copy, Debug, PartialEq, Eq)]
 pub struct Lit {
     pub var: u32,
     pub sign: bool,
 }
 
 // A row of a circuit: children are row numbers; a choice has its variable, then the side where that is true.
-#[derive(Clone, Copy, PartialEq, Eq)]
+#[derive(Clone, Copy, Debug, PartialEq, Eq)]
 pub enum Row {
     False,
     True,
@@ -81,7 +81,7 @@ pub enum Failure {
 }
 
 // A schedule from a state: steps done, the state reached, and whether no step failed.
-#[derive(Clone, Copy)]
+#[derive(Clone, Copy, Debug, PartialEq, Eq)]
 pub struct Run {
     pub done: usize,
     pub state: u16,
@@ -138,20 +138,42 @@ pub struct Ended {
     pub goal: bool,
 }
 
-// A circuit under its two limits: effort above its limit; rows above room, with the effort; effort, rows, root.
-#[derive(Clone, Copy)]
-pub enum Built {
-    TooMuch,
-    NoRoom(u32),
-    Whole(u32, u32, u32),
+// A circuit that stays within its two limits: its effort, its rows, and its root's number.
+#[derive(Clone, Copy, Debug, PartialEq, Eq)]
+pub struct Whole {
+    pub effort: u32,
+    pub rows: u32,
+    pub root: u32,
 }
 
-// Plan: the horizon, then as in `Built`.
-#[derive(Clone, Copy)]
+// The limit that a circuit passes: effort above its limit; rows above room, with the effort.
+#[derive(Clone, Copy, Debug, PartialEq, Eq)]
+pub enum Limit {
+    TooMuch,
+    NoRoom(u32),
+}
+
+impl Limit {
+    ghost use Rattle.paper.specs.Answers.{limit_code};
+
+    pub fn number(self) -> u32
+        ensures { result ≡ limit_code self }
+    {
+        match self {
+            Limit::TooMuch => 7,
+            Limit::NoRoom(_) => 8,
+        }
+    }
+}
+
+// How a circuit is built under its two limits.
+pub type Built = Result<Whole, Limit>;
+
+// How planning ends: the horizon, and the limit passed there or the whole circuit of it.
+#[derive(Clone, Copy, Debug, PartialEq, Eq)]
 pub enum Planned {
-    Refused(Fault),
-    TooMuch(u32),
-    NoRoom(u32, u32),
-    NoPlan(u32, u32, u32, u32),
-    Found(u32, u32, u32, u32),
+    TooMuch { horizon: u32 },
+    NoRoom { horizon: u32, effort: u32 },
+    NoPlan { horizon: u32, circuit: Whole },
+    Found { horizon: u32, circuit: Whole },
 }

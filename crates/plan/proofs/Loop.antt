@@ -5,14 +5,14 @@ use mathlib.Core.List.{List}
 use Prim.Native.Nat.{ℕ, zero, suc, ◌+◌, ◌-◌, ◌≤◌, ◌<◌}
 use native.Mathlib.Omega.{arith}
 use lib.ListN.{take}
-use Rattle.paper.specs.declared.Built.{Built}
-use Rattle.paper.specs.declared.Built.TheVariants.{TooMuch, NoRoom, Whole}
-use Rattle.std.specs.Prelude.{Ok, Some, None}
+use Rattle.paper.specs.declared.Whole.{Whole}
+use Rattle.paper.specs.declared.Limit.TheVariants.{TooMuch, NoRoom}
+use Rattle.std.specs.Prelude.{Ok, Err, Some, None}
 use Rattle.std.specs.Prelude as std
 use Rattle.paper.specs.declared.Planned.{Planned}
 use Rattle.paper.specs.Sheet.{Sheet}
 use Rattle.paper.specs.Clauses.{theory}
-use Rattle.paper.specs.Circuit.{compile, built_of}
+use Rattle.paper.specs.Circuit.{Built, compile, built_of}
 use Rattle.paper.specs.Operations.{room, first_plan, Outcome, stopped, searched, at_horizon, no_plan, plan_from}
 use Rattle.paper.specs.Answers.{compile_rows, plan_rows, plan_schedule}
 use Rattle.paper.proofs.Basic.{never}
@@ -24,41 +24,40 @@ use Rattle.plan.proofs.Tables.{Alike, alike_self, alike_room, rows_alike, left_a
 -- ---- one horizon
 module _ (p : Sheet) (n : ℕ) where
   -- the outcome if the planner ends with it
-  abbrev pub planned : ℕ → ℕ → ℕ → std.Option (List ℕ) → Outcome
-  planned e j i (Some σ) = record { answer = Planned.Found n e j i; table = (compile (theory p n)).table; schedule = take n σ }
-  planned e j i None = no_plan p n e j i
+  abbrev pub planned : Whole → std.Option (List ℕ) → Outcome
+  planned c (Some σ) = record { answer = Planned.Found n c; table = (compile (theory p n)).table; schedule = take n σ }
+  planned c None = no_plan p n c
 
   abbrev pub closed : Built → std.Option (List ℕ) → Outcome
-  closed TooMuch o = stopped (Planned.TooMuch n)
-  closed (NoRoom e) o = stopped (Planned.NoRoom n e)
-  closed (Whole e j i) o = planned e j i o
+  closed (Err TooMuch) o = stopped (Planned.TooMuch n)
+  closed (Err (NoRoom e)) o = stopped (Planned.NoRoom n e)
+  closed (Ok c) o = planned c o
 
   abbrev Finds : Built → std.Option (List ℕ) → Type 0
-  Finds b o = (e j i : ℕ) → b ≡ Whole e j i → entries_of n o ≡ first_plan p n
+  Finds b o = (c : Whole) → b ≡ Ok c → entries_of n o ≡ first_plan p n
 
-  at_ends : (next : ℕ → ℕ → ℕ → Outcome) (b : Built) (o : std.Option (List ℕ)) → Finds b o → ends b o ≡ true → at_horizon p n next b ≡ closed b o
-  at_ends next TooMuch o f h = refl
-  at_ends next (NoRoom e) o f h = refl
-  at_ends next (Whole e j i) (Some σ) f h = ap (searched p n e j i (next e j i)) (sym (f e j i refl))
-  at_ends next (Whole e j i) None f h = never h refl
+  at_ends : (next : Whole → Outcome) (b : Built) (o : std.Option (List ℕ)) → Finds b o → ends b o ≡ true → at_horizon p n next b ≡ closed b o
+  at_ends next (Err TooMuch) o f h = refl
+  at_ends next (Err (NoRoom e)) o f h = refl
+  at_ends next (Ok c) (Some σ) f h = ap (searched p n c (next c)) (sym (f c refl))
+  at_ends next (Ok c) None f h = never h refl
 
   at_last : (b : Built) (o : std.Option (List ℕ)) → Finds b o → at_horizon p n (no_plan p n) b ≡ closed b o
-  at_last TooMuch o f = refl
-  at_last (NoRoom e) o f = refl
-  at_last (Whole e j i) (Some σ) f = ap (searched p n e j i (no_plan p n e j i)) (sym (f e j i refl))
-  at_last (Whole e j i) None f = ap (searched p n e j i (no_plan p n e j i)) (sym (f e j i refl))
+  at_last (Err TooMuch) o f = refl
+  at_last (Err (NoRoom e)) o f = refl
+  at_last (Ok c) (Some σ) f = ap (searched p n c (no_plan p n c)) (sym (f c refl))
+  at_last (Ok c) None f = ap (searched p n c (no_plan p n c)) (sym (f c refl))
 
-  at_on : (q : Outcome) (b : Built) (o : std.Option (List ℕ)) → Finds b o → ends b o ≡ false → at_horizon p n (λ e j i. q) b ≡ q
-  at_on q TooMuch o f h = never refl h
-  at_on q (NoRoom e) o f h = never refl h
-  at_on q (Whole e j i) (Some σ) f h = never refl h
-  at_on q (Whole e j i) None f h = ap (searched p n e j i q) (sym (f e j i refl))
+  at_on : (q : Outcome) (b : Built) (o : std.Option (List ℕ)) → Finds b o → ends b o ≡ false → at_horizon p n (λ c. q) b ≡ q
+  at_on q (Err l) o f h = never refl h
+  at_on q (Ok c) (Some σ) f h = never refl h
+  at_on q (Ok c) None f h = ap (searched p n c q) (sym (f c refl))
 
-module _ (p : Sheet) (limit k n : ℕ) (b : Built) (o : std.Option (List ℕ)) (e : b ≡ built_of limit k (theory p n)) (f : (x j i : ℕ) → b ≡ Whole x j i → entries_of n o ≡ first_plan p n) where
+module _ (p : Sheet) (limit k n : ℕ) (b : Built) (o : std.Option (List ℕ)) (e : b ≡ built_of limit k (theory p n)) (f : (c : Whole) → b ≡ Ok c → entries_of n o ≡ first_plan p n) where
   pub plan_ends : (h : ℕ) → ends b o ≡ true → plan_from p limit k h n ≡ closed p n b o
   unfolding plan_from
   plan_ends zero d = ap (at_horizon p n (no_plan p n)) (sym e) ∙ at_ends p n (no_plan p n) b o f d
-  plan_ends (suc h) d = ap (at_horizon p n (λ x j i. plan_from p limit k h (n + 1))) (sym e) ∙ at_ends p n (λ x j i. plan_from p limit k h (n + 1)) b o f d
+  plan_ends (suc h) d = ap (at_horizon p n (λ c. plan_from p limit k h (n + 1))) (sym e) ∙ at_ends p n (λ c. plan_from p limit k h (n + 1)) b o f d
 
   pub plan_last : plan_from p limit k 0 n ≡ closed p n b o
   unfolding plan_from
@@ -66,7 +65,7 @@ module _ (p : Sheet) (limit k n : ℕ) (b : Built) (o : std.Option (List ℕ)) (
 
   pub plan_on : (h : ℕ) → ends b o ≡ false → plan_from p limit k (suc h) n ≡ plan_from p limit k h (n + 1)
   unfolding plan_from
-  plan_on h d = ap (at_horizon p n (λ x j i. plan_from p limit k h (n + 1))) (sym e) ∙ at_on p n (plan_from p limit k h (n + 1)) b o f d
+  plan_on h d = ap (at_horizon p n (λ c. plan_from p limit k h (n + 1))) (sym e) ∙ at_on p n (plan_from p limit k h (n + 1)) b o f d
 
 -- a horizon tried with a table in the place of T is as if tried with T
 tried_as : (p : Sheet) (limit : ℕ) (T U : List ℕ) (n : ℕ) (a : Tried) (U' : List ℕ) → Alike T U → Tries p limit U n a U' → Tries p limit T n a U'
@@ -98,42 +97,41 @@ at_next p limit T last n U a U' h l t d =
 
 -- ---- the end
 closing_answer : (p : Sheet) (n : ℕ) (b : Built) (o : std.Option (List ℕ)) → closing n b o ≡ (closed p n b o).answer
-closing_answer p n TooMuch o = refl
-closing_answer p n (NoRoom e) o = refl
-closing_answer p n (Whole e j i) (Some σ) = refl
-closing_answer p n (Whole e j i) None = refl
+closing_answer p n (Err TooMuch) o = refl
+closing_answer p n (Err (NoRoom e)) o = refl
+closing_answer p n (Ok c) (Some σ) = refl
+closing_answer p n (Ok c) None = refl
 
-closing_rows : (p : Sheet) (n : ℕ) (b : Built) (o : std.Option (List ℕ)) (T : List ℕ) → compile_rows (compile (theory p n)).table T (Ok b) ≡ plan_rows T (closed p n b o) (closing n b o)
-closing_rows p n TooMuch o T = refl
-closing_rows p n (NoRoom e) o T = refl
-closing_rows p n (Whole e j i) (Some σ) T = refl
-closing_rows p n (Whole e j i) None T = refl
+closing_rows : (p : Sheet) (n : ℕ) (b : Built) (o : std.Option (List ℕ)) (T : List ℕ) → compile_rows (compile (theory p n)).table T (Ok b) ≡ plan_rows T (Ok (closed p n b o))
+closing_rows p n (Err TooMuch) o T = refl
+closing_rows p n (Err (NoRoom e)) o T = refl
+closing_rows p n (Ok c) (Some σ) T = refl
+closing_rows p n (Ok c) None T = refl
 
-closing_schedule : (p : Sheet) (n : ℕ) (b : Built) (o : std.Option (List ℕ)) (S : List ℕ) → scheduled n b o S ≡ plan_schedule S (closed p n b o) (closing n b o)
-closing_schedule p n TooMuch o S = refl
-closing_schedule p n (NoRoom e) o S = refl
-closing_schedule p n (Whole e j i) (Some σ) S = refl
-closing_schedule p n (Whole e j i) None S = refl
+closing_schedule : (p : Sheet) (n : ℕ) (b : Built) (o : std.Option (List ℕ)) (S : List ℕ) → scheduled n b o S ≡ plan_schedule S (Ok (closed p n b o))
+closing_schedule p n (Err TooMuch) o S = refl
+closing_schedule p n (Err (NoRoom e)) o S = refl
+closing_schedule p n (Ok c) (Some σ) S = refl
+closing_schedule p n (Ok c) None S = refl
 
 module _ (p : Sheet) (limit : ℕ) (T S : List ℕ) (last n : ℕ) (U : List ℕ) (a : Tried) (U' : List ℕ) (h : At p limit T last n U) (t : Tries p limit U n a U') (r : Planned) (Z : List ℕ)
     (q : r ≡ closing n a.built a.found) (v : Z ≡ scheduled n a.built a.found S) where
   here : Tries p limit T n a U'
   here = tried_as p limit T U n a U' h.alike t
 
-  finished : plan_from p limit (room T) last 0 ≡ closed p n a.built a.found → Plans T S (plan_from p limit (room T) last 0) r U' Z
+  finished : plan_from p limit (room T) last 0 ≡ closed p n a.built a.found → Plans T S (Ok (plan_from p limit (room T) last 0)) (Ok r) U' Z
   finished e =
-      subst (λ o. Plans T S o r U' Z) (sym e)
-      (subst (λ x. Plans T S (closed p n a.built a.found) x U' Z) (sym q) (record {
-        answer_is = closing_answer p n a.built a.found;
+      subst (λ o. Plans T S (Ok o) (Ok r) U' Z) (sym e) (record {
+        answer_is = ap Ok (q ∙ closing_answer p n a.built a.found);
         rows_are = here.rows_are ∙ closing_rows p n a.built a.found T;
         schedule_is = v ∙ closing_schedule p n a.built a.found S;
-      }))
+      })
 
   -- with a horizon that ends it, or with the last one
-  pub plan_ended : ends a.built a.found ≡ true → Plans T S (plan_from p limit (room T) last 0) r U' Z
+  pub plan_ended : ends a.built a.found ≡ true → Plans T S (Ok (plan_from p limit (room T) last 0)) (Ok r) U' Z
   plan_ended d = finished (h.same ∙ plan_ends p limit (room T) n a.built a.found here.built_is here.found_is (last - n) d)
 
-  pub plan_done : last ≤ n → Plans T S (plan_from p limit (room T) last 0) r U' Z
+  pub plan_done : last ≤ n → Plans T S (Ok (plan_from p limit (room T) last 0)) (Ok r) U' Z
   plan_done l =
       let m = h.most in
       let z : last - n ≡ 0 = omega arith in

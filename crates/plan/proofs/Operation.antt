@@ -2,35 +2,35 @@
 use mathlib.Core.Path.{◌≡◌, refl, sym, ap, subst}
 use mathlib.Core.List.{List}
 use Prim.Native.Nat.{ℕ, ◌≤◌, ◌<◌}
-use Rattle.std.specs.Prelude.{Ok, Err}
+use Rattle.std.specs.Prelude.{Result, Ok, Err}
 use Rattle.paper.specs.declared.Fault.{Fault}
 use Rattle.paper.specs.declared.Fault.TheVariants.{ShortSchedule, NoStart}
 use Rattle.paper.specs.declared.Planned.{Planned}
 use Rattle.paper.specs.Sheet.{Sheet, start_count, decode}
-use Rattle.paper.specs.Operations.{on_sheet, Outcome, stopped, plan_sheet, plan_of}
+use Rattle.paper.specs.Operations.{◌>>=◌, Outcome, plan_sheet, plan_of}
 use Rattle.paper.proofs.Demand2.{sheet_short, sheet_no_start, plan_decoded}
 use Rattle.plan.specs.Horizons.{Plans}
 
 -- a refusal leaves both buffers as they were lent
-refused_plans : (T S : List ℕ) (f : Fault) (o : Outcome) → o ≡ stopped (Planned.Refused f) → Plans T S o (Planned.Refused f) T S
-refused_plans T S f o e = record { answer_is = sym (ap (λ x. x.answer) e); rows_are = refl; schedule_is = refl }
+refused_plans : (T S : List ℕ) (f : Fault) (o : Result Outcome Fault) → o ≡ Err f → Plans T S o (Err f) T S
+refused_plans T S f o e = subst (λ x. Plans T S x (Err f) T S) (sym e) (record { answer_is = refl; rows_are = refl; schedule_is = refl })
 
-pub plans_as : {T S : List ℕ} {o o' : Outcome} {r : Planned} {U Z : List ℕ} → o ≡ o' → Plans T S o r U Z → Plans T S o' r U Z
+pub plans_as : {T S : List ℕ} {o o' : Result Outcome Fault} {r : Result Planned Fault} {U Z : List ℕ} → o ≡ o' → Plans T S o r U Z → Plans T S o' r U Z
 plans_as {T} {S} {o} {o'} {r} {U} {Z} e h = subst (λ x. Plans T S x r U Z) e h
 
 -- a sheet that was accepted
 module _ (p : Sheet) (limit k bytes : ℕ) (T S : List ℕ) where
-  pub short : bytes < p.H → Plans T S (plan_sheet limit k bytes p) (Planned.Refused ShortSchedule) T S
+  pub short : bytes < p.H → Plans T S (plan_sheet limit k bytes p) (Err ShortSchedule) T S
   short h = refused_plans T S ShortSchedule (plan_sheet limit k bytes p) (sheet_short p limit k bytes h)
 
-  pub no_start : p.H ≤ bytes → start_count p ≡ 0 → Plans T S (plan_sheet limit k bytes p) (Planned.Refused NoStart) T S
+  pub no_start : p.H ≤ bytes → start_count p ≡ 0 → Plans T S (plan_sheet limit k bytes p) (Err NoStart) T S
   no_start h e = refused_plans T S NoStart (plan_sheet limit k bytes p) (sheet_no_start p limit k bytes h e)
 
 -- from the sheet's bytes
 module _ (b : List ℕ) (limit k bytes : ℕ) (T S : List ℕ) where
-  pub plan_refused : (f : Fault) → Err f ≡ decode b → Plans T S (plan_of b limit k bytes) (Planned.Refused f) T S
+  pub plan_refused : (f : Fault) → Err f ≡ decode b → Plans T S (plan_of b limit k bytes) (Err f) T S
   unfolding plan_of
-  plan_refused f e = refused_plans T S f (plan_of b limit k bytes) (ap (on_sheet (λ f. stopped (Planned.Refused f)) (plan_sheet limit k bytes)) (sym e))
+  plan_refused f e = refused_plans T S f (plan_of b limit k bytes) (ap (λ x. x >>= plan_sheet limit k bytes) (sym e))
 
   pub plan_accepted : (p : Sheet) → Ok p ≡ decode b → plan_sheet limit k bytes p ≡ plan_of b limit k bytes
   plan_accepted p e = sym (plan_decoded b p (sym e) limit k bytes)

@@ -9,14 +9,14 @@ use lib.Dec.{ltb}
 use lib.ListN.{length, get_or, set, take, drop, replicate, length-set, take-append-drop}
 use lib.Seq.{take-suc, take-suc-set, drop-set-lt, drop-drop}
 use Rattle.paper.specs.declared.Trailer.{Trailer}
-use Rattle.paper.specs.declared.Built.{Built}
-use Rattle.paper.specs.declared.Built.TheVariants.{TooMuch, NoRoom, Whole}
-use Rattle.std.specs.Prelude.{Ok}
+use Rattle.paper.specs.declared.Whole.{Whole}
+use Rattle.paper.specs.declared.Limit.TheVariants.{TooMuch, NoRoom}
+use Rattle.std.specs.Prelude.{Ok, Err}
 use Rattle.paper.specs.Lists.{each}
 use Rattle.paper.specs.Counting.{bit}
 use Rattle.paper.specs.Sheet.{Sheet, Fine, Bounded, is_start}
 use Rattle.paper.specs.Clauses.{Clauses, theory}
-use Rattle.paper.specs.Circuit.{Table, compile, built_of}
+use Rattle.paper.specs.Circuit.{Table, Built, compile, built_of}
 use Rattle.paper.specs.Operations.{row_size, row_bytes, room, good_row_at, table_of, Schedule, first_plan}
 use Rattle.paper.specs.Answers.{filled, compile_rows}
 use Rattle.paper.proofs.Buffers.{filled_length, filled_rest, room_fits, room_most}
@@ -49,25 +49,25 @@ filled_alike t {T} {U} h =
 
 -- what compile leaves does not depend on the rows that were there
 pub rows_alike : (t : Table) {T U : List ℕ} (r : Built) → Alike T U → compile_rows t U (Ok r) ≡ compile_rows t T (Ok r)
-rows_alike t TooMuch h = filled_alike [] h
-rows_alike t (NoRoom e) h = filled_alike [] h
-rows_alike t (Whole e k i) h = filled_alike t h
+rows_alike t (Err TooMuch) h = filled_alike [] h
+rows_alike t (Err (NoRoom e)) h = filled_alike [] h
+rows_alike t (Ok c) h = filled_alike t h
 
 filled_is_alike : (t : Table) (T : List ℕ) → length t ≤ room T → Alike T (filled t T)
 filled_is_alike t T l = record { same_length = filled_length t T l; beyond = filled_rest t T l }
 
 -- and it stands in the place of what was lent
 pub left_alike : (limit : ℕ) (S : Clauses) (T : List ℕ) (r : Built) → r ≡ built_of limit (room T) S → Alike T (compile_rows (compile S).table T (Ok r))
-left_alike limit S T TooMuch e = filled_is_alike [] T (omega arith)
-left_alike limit S T (NoRoom x) e = filled_is_alike [] T (omega arith)
-left_alike limit S T (Whole x k i) e = filled_is_alike (compile S).table T (answered limit (room T) S x k i (sym e)).within_room
+left_alike limit S T (Err TooMuch) e = filled_is_alike [] T (omega arith)
+left_alike limit S T (Err (NoRoom x)) e = filled_is_alike [] T (omega arith)
+left_alike limit S T (Ok c) e = filled_is_alike (compile S).table T (answered limit (room T) S c (sym e)).within_room
 
 -- a whole circuit of T(P) is a table of good rows
-pub whole_rows : (p : Sheet) → Fine p → (n : ℕ) → n ≤ 8 → (limit : ℕ) (T : List ℕ) (e k i : ℕ) → built_of limit (room T) (theory p n) ≡ Whole e k i → (t : Trailer) → Counts p t → Bounded t
-    → Rows t n (filled (compile (theory p n)).table T) k i
-whole_rows p fine n h limit T e k i q t c b =
-    let w = answered limit (room T) (theory p n) e k i q in
-    let l = within_room p fine n h limit T e k i w in
+pub whole_rows : (p : Sheet) → Fine p → (n : ℕ) → n ≤ 8 → (limit : ℕ) (T : List ℕ) (w : Whole) → built_of limit (room T) (theory p n) ≡ Ok w → (t : Trailer) → Counts p t → Bounded t
+    → Rows t n (filled (compile (theory p n)).table T) w.rows w.root
+whole_rows p fine n h limit T x q t c b =
+    let w = answered limit (room T) (theory p n) x q in
+    let l = within_room p fine n h limit T x.effort x.rows x.root w in
     let m = room_most T in
     let f = room_fits (compile (theory p n)).table T w.within_room in
     let s = filled_length (compile (theory p n)).table T w.within_room in
@@ -76,24 +76,24 @@ whole_rows p fine n h limit T e k i q t c b =
       horizon = h;
       inside = omega arith;
       most = omega arith;
-      root_low = root_low p fine n h limit T e k i w;
-      good = λ j g. ap (λ v. good_row_at v (filled (compile (theory p n)).table T) j) (total_is p n t c) ∙ rows_good p fine n h limit T e k i w j g;
+      root_low = root_low p fine n h limit T x.effort x.rows x.root w;
+      good = λ j g. ap (λ v. good_row_at v (filled (compile (theory p n)).table T) j) (total_is p n t c) ∙ rows_good p fine n h limit T x.effort x.rows x.root w j g;
     }
 
 -- what compile promised of a horizon whose circuit is whole
-module _ (p : Sheet) (fine : Fine p) (n : ℕ) (h : n ≤ 8) (limit : ℕ) (T U : List ℕ) (r : Built) (e k i : ℕ) (b : r ≡ built_of limit (room T) (theory p n))
-    (u : U ≡ compile_rows (compile (theory p n)).table T (Ok r)) (q : r ≡ Whole e k i) where
+module _ (p : Sheet) (fine : Fine p) (n : ℕ) (h : n ≤ 8) (limit : ℕ) (T U : List ℕ) (r : Built) (x : Whole) (b : r ≡ built_of limit (room T) (theory p n))
+    (u : U ≡ compile_rows (compile (theory p n)).table T (Ok r)) (q : r ≡ Ok x) where
   left_filled : U ≡ filled (compile (theory p n)).table T
-  left_filled = u ∙ ap (λ x. compile_rows (compile (theory p n)).table T (Ok x)) q
+  left_filled = u ∙ ap (λ y. compile_rows (compile (theory p n)).table T (Ok y)) q
 
-  pub left_rows : (t : Trailer) → Counts p t → Bounded t → Rows t n U k i
-  left_rows t c w = subst (λ X. Rows t n X k i) (sym left_filled) (whole_rows p fine n h limit T e k i (sym b ∙ q) t c w)
+  pub left_rows : (t : Trailer) → Counts p t → Bounded t → Rows t n U x.rows x.root
+  left_rows t c w = subst (λ X. Rows t n X x.rows x.root) (sym left_filled) (whole_rows p fine n h limit T x (sym b ∙ q) t c w)
 
   -- the search in it finds the first plan
-  pub left_first : (A : ℕ) → p.A ≡ A → (o : Option Schedule) (σ : Schedule) → σ ≡ [] → o ≡ search (passes p n (table_of U k) i) (passes p n (table_of U k) i) A n σ → o ≡ first_plan p n
+  pub left_first : (A : ℕ) → p.A ≡ A → (o : Option Schedule) (σ : Schedule) → σ ≡ [] → o ≡ search (passes p n (table_of U x.rows) x.root) (passes p n (table_of U x.rows) x.root) A n σ → o ≡ first_plan p n
   left_first A a o σ z s =
-      let w = answered limit (room T) (theory p n) e k i (sym b ∙ q) in
-      let t : table_of U k ≡ (compile (theory p n)).table = ap (λ X. table_of X k) left_filled ∙ table_is p fine n h limit T e k i w in
+      let w = answered limit (room T) (theory p n) x (sym b ∙ q) in
+      let t : table_of U x.rows ≡ (compile (theory p n)).table = ap (λ X. table_of X x.rows) left_filled ∙ table_is p fine n h limit T x.effort x.rows x.root w in
       s ∙ (λ j. search (passes p n (t j) (sym w.root_is j)) (passes p n (t j) (sym w.root_is j)) (sym a j) n (z j)) ∙ search_plan p fine n
 
 -- ---- the schedule buffer: i entries of s are copied to the front of what was lent as S

@@ -1,14 +1,14 @@
 // The operation plan: horizons in order, both limits afresh at each; the first that gives 7, 8 or a schedule ends it.
 #![tactic(auto)]
 
-ghost use Rattle.std.specs.Prelude.{◌≡◌, ◌++◌, ◌≤◌, length, take, drop};
+ghost use Rattle.std.specs.Prelude.{◌≡◌, ◌++◌, ◌≤◌, length, take, drop, Ok};
 ghost use Rattle.paper.specs.Operations as operation;
 ghost use Rattle.paper.specs.Answers.{plan_rows, plan_schedule};
 ghost use Rattle.sheet.specs.Contents.{contents};
 ghost use Rattle.prefixes.specs.Words.{Starts};
 ghost use Rattle.plan.specs.Horizons as spec;
 
-use paper::{Built, Fault, Planned};
+use paper::{Built, Fault, Limit, Planned, Whole};
 use prefixes::{Circuit, Prefix};
 use sheet::Sheet;
 use variables::Numbering;
@@ -34,8 +34,8 @@ fn try_horizon(
 {
     let built = compile::compile_theory(sheet, n, table, limit);
     match built {
-        Built::TooMuch | Built::NoRoom(_) => Tried { built, found: None },
-        Built::Whole(_, count, root) => {
+        Err(_) => Tried { built, found: None },
+        Ok(whole) => {
             let numbers = Numbering {
                 trailer: sheet.parts.trailer,
             };
@@ -43,8 +43,8 @@ fn try_horizon(
                 numbers,
                 steps: n,
                 table,
-                count,
-                root,
+                count: whole.rows,
+                root: whole.root,
                 starts,
             };
             let found = seek::seek(&circuit, values, Prefix::none(), n);
@@ -58,8 +58,8 @@ fn ends(tried: Tried) -> bool
     ensures { result ≡ spec.ends tried.built tried.found }
 {
     match tried.built {
-        Built::TooMuch | Built::NoRoom(_) => true,
-        Built::Whole(_, _, _) => tried.found.is_some(),
+        Err(_) => true,
+        Ok(_) => tried.found.is_some(),
     }
 }
 
@@ -74,23 +74,17 @@ fn copy(out: &mut [u8], s: [u8; 8], n: usize)
 }
 
 // The answer where the circuit is whole, with the plan's entries in the schedule buffer if there is a plan.
-fn finish_whole(
-    n: usize,
-    effort: u32,
-    count: u32,
-    root: u32,
-    found: Option<[u8; 8]>,
-    out: &mut [u8],
-) -> Planned
+fn finish_whole(n: usize, circuit: Whole, found: Option<[u8; 8]>, out: &mut [u8]) -> Planned
     requires { (n ≤ 8) × (n ≤ length out.old) }
-    ensures answer { result ≡ spec.plan_or_none n effort count root found }
+    ensures answer { result ≡ spec.plan_or_none n circuit found }
     ensures schedule { out.new ≡ spec.written n found out.old }
 {
+    let horizon = n as u32;
     match found {
-        None => Planned::NoPlan(n as u32, effort, count, root),
+        None => Planned::NoPlan { horizon, circuit },
         Some(entries) => {
             copy(out, entries, n);
-            Planned::Found(n as u32, effort, count, root)
+            Planned::Found { horizon, circuit }
         }
     }
 }
@@ -101,19 +95,18 @@ fn finish(n: usize, tried: Tried, out: &mut [u8]) -> Planned
     ensures answer { result ≡ spec.closing n tried.built tried.found }
     ensures schedule { out.new ≡ spec.scheduled n tried.built tried.found out.old }
 {
+    let horizon = n as u32;
     match tried.built {
-        Built::TooMuch => Planned::TooMuch(n as u32),
-        Built::NoRoom(effort) => Planned::NoRoom(n as u32, effort),
-        Built::Whole(effort, count, root) => {
-            finish_whole(n, effort, count, root, tried.found, out)
-        }
+        Err(Limit::TooMuch) => Planned::TooMuch { horizon },
+        Err(Limit::NoRoom(effort)) => Planned::NoRoom { horizon, effort },
+        Ok(circuit) => finish_whole(n, circuit, tried.found, out),
     }
 }
 
 // Horizons 0, 1, .. up to the sheet's.
 fn horizons(sheet: Sheet, limit: u32, table: &mut [u8], schedule: &mut [u8]) -> Planned
     requires { sheet.parts.trailer.horizon ≤ length schedule.old }
-    ensures { spec.Plans table.old schedule.old (operation.plan_from (contents sheet.entry) limit (operation.room table.old) sheet.entry.parts.trailer.horizon 0) result table.new schedule.new }
+    ensures { spec.Plans table.old schedule.old (Ok (operation.plan_from (contents sheet.entry) limit (operation.room table.old) sheet.entry.parts.trailer.horizon 0)) (Ok result) table.new schedule.new }
 {
     let starts = starts::start_words(sheet.parts);
     let mut values = [0u64; 65536];
@@ -131,26 +124,30 @@ fn horizons(sheet: Sheet, limit: u32, table: &mut [u8], schedule: &mut [u8]) -> 
 }
 
 // A sheet that was accepted: a schedule buffer of fewer than H bytes is refused, and so is a sheet without a start.
-fn plan_sheet(sheet: Sheet, limit: u32, table: &mut [u8], schedule: &mut [u8]) -> Planned
+fn plan_sheet(
+    sheet: Sheet,
+    limit: u32,
+    table: &mut [u8],
+    schedule: &mut [u8],
+) -> Result<Planned, Fault>
     ensures { spec.Plans table.old schedule.old (operation.plan_sheet limit (operation.room table.old) (length schedule.old) (contents sheet.entry)) result table.new schedule.new }
 {
     if schedule.len() < sheet.parts.trailer.horizon {
-        return Planned::Refused(Fault::ShortSchedule);
+        return Err(Fault::ShortSchedule);
     }
     if starts::start_count(sheet.parts) == 0 {
-        return Planned::Refused(Fault::NoStart);
+        return Err(Fault::NoStart);
     }
-    horizons(sheet, limit, table, schedule)
+    Ok(horizons(sheet, limit, table, schedule))
 }
 
 // The operation plan.
-pub fn plan(b: &[u8], limit: u32, table: &mut [u8], schedule: &mut [u8]) -> Planned
-    ensures answer { result ≡ (operation.plan_of b.now limit (operation.room table.old) (length schedule.old)).answer }
-    ensures rows { table.new ≡ plan_rows table.old (operation.plan_of b.now limit (operation.room table.old) (length schedule.old)) result }
-    ensures schedule { schedule.new ≡ plan_schedule schedule.old (operation.plan_of b.now limit (operation.room table.old) (length schedule.old)) result }
+#[tactic(auto, unfolding(paper::specs::Operations::plan_of))]
+pub fn plan(b: &[u8], limit: u32, table: &mut [u8], schedule: &mut [u8]) -> Result<Planned, Fault>
+    ensures answer { result ≡ operation.answer_of (operation.plan_of b.now limit (operation.room table.old) (length schedule.old)) }
+    ensures rows { table.new ≡ plan_rows table.old (operation.plan_of b.now limit (operation.room table.old) (length schedule.old)) }
+    ensures schedule { schedule.new ≡ plan_schedule schedule.old (operation.plan_of b.now limit (operation.room table.old) (length schedule.old)) }
 {
-    match Sheet::read(b) {
-        Err(f) => Planned::Refused(f),
-        Ok(sheet) => plan_sheet(sheet, limit, table, schedule),
-    }
+    let sheet = Sheet::read(b)?;
+    plan_sheet(sheet, limit, table, schedule)
 }

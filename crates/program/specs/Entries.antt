@@ -1,11 +1,12 @@
 -- How many entries an answer has. Not in document 01.
 -- Assumes nothing.
-use Rattle.std.specs.Prelude.{ℕ}
+use Rattle.std.specs.Prelude.{ℕ, Result, Ok, Err}
+use Rattle.paper.specs.declared.Fault.{Fault}
 use Rattle.paper.specs.declared.Planned.{Planned}
 
-abbrev pub entries : Planned → ℕ
-entries (Planned.Refused f) = 0
-entries (Planned.TooMuch n) = 0
-entries (Planned.NoRoom n e) = 0
-entries (Planned.NoPlan n e k i) = 0
-entries (Planned.Found n e k i) = n
+abbrev pub entries : Result Planned Fault → ℕ
+entries (Err f) = 0
+entries (Ok (Planned.TooMuch n)) = 0
+entries (Ok (Planned.NoRoom n e)) = 0
+entries (Ok (Planned.NoPlan n c)) = 0
+entries (Ok (Planned.Found n c)) = n

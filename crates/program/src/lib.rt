@@ -7,14 +7,14 @@ ghost use Rattle.paper.specs.Program as paper;
 ghost use Rattle.line.specs.Written.{Writes};
 ghost use Rattle.program.specs.Entries as spec;
 
-use paper::Planned;
+use paper::{Fault, Planned};
 
 // How many entries an answer has: a plan has one for each step.
-fn entries(p: Planned) -> usize
+fn entries(p: Result<Planned, Fault>) -> usize
     ensures { result ≡ spec.entries p }
 {
     match p {
-        Planned::Found(n, _, _, _) => n as usize,
+        Ok(Planned::Found { horizon, .. }) => horizon as usize,
         _ => 0,
     }
 }
