@@ -10,11 +10,17 @@ use Rattle.paper.specs.Sheet.{Sheet, sheet_of}
 use Rattle.paper.specs.Clauses.{Clause, Clauses, facts, actions, rule_nos}
 use Rattle.sheet.specs.Contents.{contents}
 use Rattle.bits.proofs.Upward.{each_more}
+use Rattle.variables.specs.Numbering.{Counts}
+use Rattle.variables.proofs.Laws.{sheet_counts}
 use Rattle.theory.specs.declared.Builder.{Builder}
 use Rattle.theory.specs.Making as making
 use Rattle.theory.specs.Making.{besides}
 use Rattle.theory.specs.Building.{Still, Pushes, Ends, Adds}
 use Rattle.theory.proofs.Laws as laws
+
+-- its numbers are those of its sheet
+pub counts_of : (a : Builder) → Counts (contents a.sheet) a.numbers.trailer
+counts_of a = subst (Counts (contents a.sheet)) (sym a.numbers_are) (sheet_counts a.sheet.parts.bytes.now a.sheet.parts.trailer)
 
 still : {a : Builder} → Still a a
 still = record { literals = refl; ends = refl; sheet = refl }

@@ -85,7 +85,7 @@ exclusions_of_lem p n t a = sym (map_filter (λ b. no· (action p n t a) ∷ (no
 abbrev pub setter_part : Bool → ℕ → Step → Sheet → ℕ → ℕ → Clause
 setter_part value k t p n j = only (bit (set_to value (rule_of p j)) k) (yes· (z p n t j))
 
-pub setters_are : (p : Sheet) (n : ℕ) (t : Step) (value : Bool) (k : ℕ) → each (rule_nos p n) (setter_part value k t p n) ≡ setters p n t (λ j. set_to value (rule_of p j)) k
+pub setters_are : (p : Sheet) (n : ℕ) (t : Step) (value : Bool) (k : ℕ) → each (rule_nos p n) (setter_part value k t p n) ≡ setters p n t value k
 setters_are p n t value k = sym (map_filter (λ r. yes· (z p n t r)) (λ r. bit (set_to value (rule_of p r)) k) (rule_nos p n))
 
 -- ---- start and goal clauses

@@ -81,14 +81,14 @@ exclusion_part p n t a b = only (ltb a b && every_pair a b) (no· (action p n t 
 abbrev pub exclusions_of : Sheet → ℕ → Step → ℕ → Clauses
 exclusions_of p n t a = map (λ b. no· (action p n t a) ∷ (no· (action p n t b) ∷ [])) (filter (λ b. ltb a b && every_pair a b) (actions p n))
 
-abbrev pub setters : Sheet → ℕ → Step → (ℕ → ℕ) → ℕ → Clause
-setters p n t mask k = map (λ r. yes· (z p n t r)) (filter (λ r. bit (mask r) k) (rule_nos p n))
+abbrev pub setters : Sheet → ℕ → Step → Bool → ℕ → Clause
+setters p n t value k = map (λ r. yes· (z p n t r)) (filter (λ r. bit (set_to value (rule_of p r)) k) (rule_nos p n))
 
-abbrev pub frame_of : Sheet → ℕ → Step → (ℕ → ℕ) → Bool → ℕ → Clause
-frame_of p n t mask sign k = (lit (fact p n (before t) k) sign ∷ setters p n t mask k) ++ (lit (fact p n (after t) k) (not sign) ∷ [])
+abbrev pub frame_of : Sheet → ℕ → Step → Bool → ℕ → Clause
+frame_of p n t value k = (lit (fact p n (before t) k) value ∷ setters p n t value k) ++ (lit (fact p n (after t) k) (not value) ∷ [])
 
 abbrev pub frame_part : Sheet → ℕ → Step → ℕ → Clauses
-frame_part p n t k = frame_of p n t (λ r. (rule_of p r).set0) false k ∷ (frame_of p n t (λ r. (rule_of p r).set1) true k ∷ [])
+frame_part p n t k = frame_of p n t false k ∷ (frame_of p n t true k ∷ [])
 
 abbrev pub steps_of : Sheet → ℕ → Clauses
 steps_of p n = each (up_from 0 n) (λ i. step_clauses p n every_pair (record { 0 = i }))

@@ -38,15 +38,18 @@ struct Masks {
     nil: u16,
 }
 
-// What the clause maker works on: the two arrays that are lent to it, how much of them is filled, the sheet, and its needs and rules decoded.
+// What the clause maker works on: the two arrays that are lent to it, how much of them is filled, the sheet, the
+// numbers of its variables, and its needs and rules decoded.
 #[derive(Drop)]
 struct Builder<'a, 'b> {
     literals: &'a mut [u16],
     ends: &'a mut [u16],
     made: Filled,
     sheet: Sheet<'b>,
+    numbers: Numbering,
     needs: [[u16; 2]; 12],
     rules: [[u16; 5]; 24],
+    ghost numbers_are: { numbers.trailer ≡ sheet.parts.trailer },
     ghost needs_are: { needs ≡ pairs_of (contents sheet) },
     ghost rules_are: { rules ≡ fives_of (contents sheet) },
 }
@@ -107,11 +110,8 @@ impl Builder<'_, '_> {
         requires { (moment.0 ≤ 8) × (k < 12) }
         ensures { (n : ℕ) → as_lit result ≡ spec.lit (clauses.fact (contents self.now.sheet) n moment k) sign }
     {
-        let numbers = Numbering {
-            trailer: self.sheet.parts.trailer,
-        };
         Literal {
-            var: numbers.fact(moment, k),
+            var: self.numbers.fact(moment, k),
             sign,
         }
     }
@@ -121,11 +121,8 @@ impl Builder<'_, '_> {
         requires { (step.0 < 8) × (a < 12) }
         ensures { (n : ℕ) → as_lit result ≡ spec.lit (clauses.action (contents self.now.sheet) n step a) sign }
     {
-        let numbers = Numbering {
-            trailer: self.sheet.parts.trailer,
-        };
         Literal {
-            var: numbers.action(step, a),
+            var: self.numbers.action(step, a),
             sign,
         }
     }
@@ -135,11 +132,8 @@ impl Builder<'_, '_> {
         requires { (step.0 < 8) × (j < 24) }
         ensures { (n : ℕ) → as_lit result ≡ spec.lit (clauses.z (contents self.now.sheet) n step j) sign }
     {
-        let numbers = Numbering {
-            trailer: self.sheet.parts.trailer,
-        };
         Literal {
-            var: numbers.z(step, j),
+            var: self.numbers.z(step, j),
             sign,
         }
     }
@@ -403,7 +397,7 @@ impl Builder<'_, '_> {
     // The z of the rules that set fact k to this value.
     fn push_setters(&mut self, step: Step, k: usize, value: bool)
         requires { (step.0 < 8) × (k < 12) }
-        ensures { Pushes (λ p n. spec.setters p n step (λ j. spec.set_to value (rule_of p j)) k) self.old self.new }
+        ensures { Pushes (λ p n. spec.setters p n step value k) self.old self.new }
     {
         let rules = self.sheet.parts.trailer.rules;
         for j in 0..rules {
@@ -416,7 +410,7 @@ impl Builder<'_, '_> {
     // Fact k keeps the other value than this, unless a rule fires that sets it to this one.
     fn frame(&mut self, step: Step, k: usize, value: bool)
         requires { (step.0 < 8) × (k < 12) }
-        ensures { Adds (λ p n. spec.frame_of p n step (λ j. spec.set_to value (rule_of p j)) value k ∷ []) self.old self.new }
+        ensures { Adds (λ p n. spec.frame_of p n step value k ∷ []) self.old self.new }
     {
         let x = self.fact(step.before(), k, value);
         let y = self.fact(step.after(), k, !value);
@@ -517,6 +511,9 @@ pub fn theory(sheet: Sheet, n: usize, literals: &mut [u16], ends: &mut [u16]) ->
             clauses: 0,
         },
         sheet,
+        numbers: Numbering {
+            trailer: sheet.parts.trailer,
+        },
         needs: sheet.parts.needs(),
         rules: sheet.parts.rules(),
     };

@@ -14,5 +14,5 @@ returns c = let a = c.args in
     adds_as (λ n.
     let x = c.fact-x.ensures n ∙ ap (λ m. lit (fact p n m a.k) a.value) c.before-2.ensures in
     let y = c.fact-y.ensures n ∙ ap (λ m. lit (fact p n m a.k) (not a.value)) c.after.ensures in
-    λ i. ((x i ∷ setters p n a.step (λ j. set_to a.value (rule_of p j)) a.k) ++ (y i ∷ [])) ∷ [])
+    λ i. ((x i ∷ setters p n a.step a.value a.k) ++ (y i ∷ [])) ∷ [])
     (adds_clause (pushes_then c.push.ensures (pushes_then c.push_setters.ensures c.push-2.ensures)) c.end.ensures)
