@@ -2,7 +2,7 @@
 use mathlib.Core.Path.{◌≡◌, refl, sym, ap, ◌∙◌, subst}
 use mathlib.Core.Bool.{Bool, true, false, cond}
 use mathlib.Core.List.{List, [], ◌∷◌, ◌++◌, map, append-nil, append_assoc, map-append}
-use Prim.Native.Nat.{ℕ, ◌+◌, ◌*◌, ◌≤◌, ◌<◌}
+use Prim.Native.Nat.{ℕ, ◌+◌, ◌≤◌, ◌<◌}
 use native.Mathlib.Numerals.{add-one}
 use native.Mathlib.Omega.{arith}
 use lib.ListN.{drop, length, take, set, length-append, length-set}
@@ -18,7 +18,7 @@ use Rattle.bits.proofs.Upward.{each_last}
 use Rattle.bits.proofs.Agree.{drop_later}
 use Rattle.theory.specs.declared.Filled.{Filled}
 use Rattle.theory.specs.Flat.{Fit, Stored, code_of, codes, ends_from}
-use Rattle.theory.specs.Making.{Holds, Pushes, Ends, Adds, lit, fact_as, literals_as, besides}
+use Rattle.theory.specs.Making.{Holds, Pushes, Ends, Adds, fact_as, literals_as, besides}
 
 -- ---- lists of lists
 module _ {A B : Type 0} where
@@ -41,52 +41,6 @@ ends_append i (d ∷ S) c =
 codes_append : (S : Clauses) (c : Clause) → codes (S ++ (c ∷ [])) ++ [] ≡ codes S ++ map code_of c
 unfolding codes
 codes_append S c = append-nil (codes (S ++ (c ∷ []))) ∙ each_last S c (λ c. map code_of c)
-
--- a literal is stored
-pub pushed : (L : List ℕ) (m : Filled) (l : Lit) (v : ℕ) → v ≡ code_of l → m.literals < length L
-    → Pushes (l ∷ []) L (set L m.literals v) m (record { literals = m.literals + 1; clauses = m.clauses })
-pushed L m l v e h = record {
-  pushes = λ E S c k. record { stored = holds E S c k };
-  clauses_stay = refl;
-  literals_grow = omega arith;
-  literals_behind = drop-set-lt (m.literals + 1) L m.literals v (omega arith);
-}
-  where
-    holds : (E : List ℕ) (S : Clauses) (c : Clause) → Holds L E m S c → Fit (set L m.literals v) E S (c ++ (l ∷ []))
-        → Stored (set L m.literals v) E (record { literals = m.literals + 1; clauses = m.clauses }) S (c ++ (l ∷ []))
-    holds E S c k f =
-        let n = length-append c (l ∷ []) in
-        let a = f.literals_fit in
-        let b = f.literals_most in
-        let d = length-set L m.literals v in
-        let s = k.stored (record { literals_fit = omega arith; literals_most = omega arith; clauses_fit = f.clauses_fit; clauses_most = f.clauses_most }) in
-        let x = s.literals_are in
-        record {
-          clauses_are = s.clauses_are;
-          literals_are = omega arith;
-          literals_stored =
-              ap (λ (i : ℕ). take i (set L m.literals v)) (add-one m.literals) ∙ take-suc-set L m.literals v h
-              ∙ (λ i. s.literals_stored i ++ (e i ∷ []))
-              ∙ append_assoc (codes S) (map code_of c) (code_of l ∷ []) ∙ ap (λ z. codes S ++ z) (sym (map-append code_of c (l ∷ [])));
-          ends_stored = s.ends_stored;
-        }
-
--- there is no place for it
-pub push_full : (L : List ℕ) (m : Filled) (l : Lit) → (m.literals < length L → m.literals < 65535 → ⊥) → Pushes (l ∷ []) L L m m
-push_full L m l h = record {
-  pushes = λ E S c k. record {
-    stored = λ f.
-        let n = length-append c (l ∷ []) in
-        let a = f.literals_fit in
-        let b = f.literals_most in
-        let s = k.stored (record { literals_fit = omega arith; literals_most = omega arith; clauses_fit = f.clauses_fit; clauses_most = f.clauses_most }) in
-        let x = s.literals_are in
-        absurd (h (omega arith) (omega arith));
-  };
-  clauses_stay = refl;
-  literals_grow = omega arith;
-  literals_behind = refl;
-}
 
 -- an end is stored
 pub ended : (E : List ℕ) (m : Filled) → m.clauses < length E → Ends E (set E m.clauses m.literals) m (record { literals = m.literals; clauses = m.clauses + 1 })
@@ -200,13 +154,6 @@ adds_clause {c} {L} {M} {E} {G} {m} {k} {o} f g =
       clauses_grow = omega arith;
       ends_behind = g.ends_behind;
     }
-
--- ---- literals as numbers
-pub code_yes : (x : ℕ) (s : Bool) → s ≡ true → 2 * x ≡ code_of (lit x s)
-code_yes x s h = rw h (omega arith)
-
-pub code_no : (x : ℕ) (s : Bool) → s ≡ false → 2 * x + 1 ≡ code_of (lit x s)
-code_no x s h = rw h (omega arith)
 
 -- ---- the definitions' parts as lists of lists
 pub map_only : {A B : Type 0} (f : A → B) (b : Bool) (x : A) → map f (only b x) ≡ only b (f x)

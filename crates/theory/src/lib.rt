@@ -83,6 +83,7 @@ impl Masks {
     ghost use Rattle.theory.specs.Building.{as_masks};
 
     // The masks of a clause of a sheet.
+    #[tactic(auto, unfolding(paper::specs::Sheet::masks_at))]
     fn read(bytes: &[u8], at: usize) -> Masks
         requires { at + 4 ≤ length bytes.now }
         ensures { as_masks result ≡ paper.masks_at bytes.now at }
@@ -106,6 +107,7 @@ impl Builder<'_, '_> {
     ghost use Rattle.theory.specs.Building.{as_lit, as_masks, Pushes, Ends, Adds};
 
     // The literal of fact k at a moment.
+    #[tactic(auto, using(crate::proofs::Building::counts_of))]
     fn fact(&self, moment: Moment, k: usize, sign: bool) -> Literal
         requires { (moment.0 ≤ 8) × (k < 12) }
         ensures { (n : ℕ) → as_lit result ≡ spec.lit (clauses.fact (contents self.now.sheet) n moment k) sign }
@@ -117,6 +119,7 @@ impl Builder<'_, '_> {
     }
 
     // The literal of action a, from 0, at a step.
+    #[tactic(auto, using(crate::proofs::Building::counts_of))]
     fn action(&self, step: Step, a: usize, sign: bool) -> Literal
         requires { (step.0 < 8) × (a < 12) }
         ensures { (n : ℕ) → as_lit result ≡ spec.lit (clauses.action (contents self.now.sheet) n step a) sign }
@@ -128,6 +131,7 @@ impl Builder<'_, '_> {
     }
 
     // The literal of the z of rule j at a step.
+    #[tactic(auto, using(crate::proofs::Building::counts_of))]
     fn z(&self, step: Step, j: usize, sign: bool) -> Literal
         requires { (step.0 < 8) × (j < 24) }
         ensures { (n : ℕ) → as_lit result ≡ spec.lit (clauses.z (contents self.now.sheet) n step j) sign }
@@ -139,6 +143,7 @@ impl Builder<'_, '_> {
     }
 
     // What action a needs.
+    #[tactic(auto, using(crate::proofs::Parts::need_is))]
     fn need(&self, a: usize) -> Masks
         requires { a < 12 }
         ensures one { result.one ≡ (need_of (contents self.now.sheet) a).need1 }
@@ -152,6 +157,7 @@ impl Builder<'_, '_> {
     }
 
     // Rule j: action, cond1, cond0, set1, set0.
+    #[tactic(auto, using(crate::proofs::Parts::rule_is))]
     fn rule(&self, j: usize) -> [u16; 5]
         requires { j < 24 }
         ensures { result ≡ fives (rule_of (contents self.now.sheet) j) }

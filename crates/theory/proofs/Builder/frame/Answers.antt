@@ -1,10 +1,9 @@
 use mathlib.Core.Path.{ap, ◌∙◌}
 use mathlib.Core.Bool.{not}
 use mathlib.Core.List.{[], ◌∷◌, ◌++◌}
-use Rattle.paper.specs.Step.{rule_of}
 use Rattle.paper.specs.Clauses.{fact}
 use Rattle.sheet.specs.Contents.{contents}
-use Rattle.theory.specs.Making.{lit, set_to, setters}
+use Rattle.theory.specs.Making.{lit, setters}
 use Rattle.theory.proofs.Building.{pushes_then, adds_clause, adds_as}
 use Rattle.theory.proofs.Builder.frame.Goals as goal
 
