@@ -104,19 +104,19 @@ pub pushes_start : (f : Sheet → ℕ → ℕ → Clause) {a : Builder} → Push
 unfolding each up_from
 pushes_start f = pushes_none
 
-pub pushes_more : (k : ℕ) (f : Sheet → ℕ → ℕ → Clause) {a b c : Builder} → Pushes (λ p n. each (up_from 0 k) (f p n)) a b → Pushes (λ p n. f p n k) b c
+pub pushes_more : {k : ℕ} (f : Sheet → ℕ → ℕ → Clause) {a b c : Builder} → Pushes (λ p n. each (up_from 0 k) (f p n)) a b → Pushes (λ p n. f p n k) b c
     → Pushes (λ p n. each (up_from 0 (k + 1)) (f p n)) a c
-pushes_more k f {a} x y = pushes_as (λ n. sym (each_more (f (contents a.sheet) n) k)) (pushes_then x y)
+pushes_more {k} f {a} x y = pushes_as (λ n. sym (each_more (f (contents a.sheet) n) k)) (pushes_then x y)
 
 pub adds_start : (f : Sheet → ℕ → ℕ → Clauses) {a : Builder} → Adds (λ p n. each (up_from 0 0) (f p n)) a a
 unfolding each up_from
 adds_start f = adds_none
 
-pub adds_more : (k : ℕ) (f : Sheet → ℕ → ℕ → Clauses) {a b c : Builder} → Adds (λ p n. each (up_from 0 k) (f p n)) a b → Adds (λ p n. f p n k) b c
+pub adds_more : {k : ℕ} (f : Sheet → ℕ → ℕ → Clauses) {a b c : Builder} → Adds (λ p n. each (up_from 0 k) (f p n)) a b → Adds (λ p n. f p n k) b c
     → Adds (λ p n. each (up_from 0 (k + 1)) (f p n)) a c
-adds_more k f {a} x y = adds_as (λ n. sym (each_more (f (contents a.sheet) n) k)) (adds_then x y)
+adds_more {k} f {a} x y = adds_as (λ n. sym (each_more (f (contents a.sheet) n) k)) (adds_then x y)
 
-module _ (k : ℕ) (f : Sheet → ℕ → ℕ → Clause) {a b : Builder} (x : Pushes (λ p n. each (up_from 0 k) (f p n)) a b) where
+module _ {k : ℕ} (f : Sheet → ℕ → ℕ → Clause) {a b : Builder} (x : Pushes (λ p n. each (up_from 0 k) (f p n)) a b) where
   pub pushes_facts : k ≤ a.sheet.parts.trailer.facts → a.sheet.parts.trailer.facts ≤ k → Pushes (λ p n. each (facts p n) (f p n)) a b
   unfolding facts sheet_of
   pushes_facts h d = let e : k ≡ a.sheet.parts.trailer.facts = omega arith in pushes_as (λ n. ap (λ (i : ℕ). each (up_from 0 i) (f (contents a.sheet) n)) e) x
@@ -125,7 +125,7 @@ module _ (k : ℕ) (f : Sheet → ℕ → ℕ → Clause) {a b : Builder} (x : P
   unfolding rule_nos sheet_of
   pushes_rules h d = let e : k ≡ a.sheet.parts.trailer.rules = omega arith in pushes_as (λ n. ap (λ (i : ℕ). each (up_from 0 i) (f (contents a.sheet) n)) e) x
 
-module _ (k : ℕ) (f : Sheet → ℕ → ℕ → Clauses) {a b : Builder} (x : Adds (λ p n. each (up_from 0 k) (f p n)) a b) where
+module _ {k : ℕ} (f : Sheet → ℕ → ℕ → Clauses) {a b : Builder} (x : Adds (λ p n. each (up_from 0 k) (f p n)) a b) where
   pub adds_count : (i : ℕ) → k ≤ i → i ≤ k → Adds (λ p n. each (up_from 0 i) (f p n)) a b
   adds_count i h d = let e : k ≡ i = omega arith in adds_as (λ n. ap (λ (j : ℕ). each (up_from 0 j) (f (contents a.sheet) n)) e) x
 

@@ -1,14 +1,13 @@
-use Rattle.theory.specs.Making.{need_part}
 use Rattle.paper.specs.Clauses.{need_clauses}
 use Rattle.theory.proofs.Building.{adds_start, adds_more, adds_actions}
 use Rattle.theory.proofs.Builder.needs_of_step.Goals as goal
 
 pub loop-a-init : goal.loop-a-init
-loop-a-init c = adds_start (λ p n. need_part p n c.args.step)
+loop-a-init c = adds_start _
 
 pub loop-a-preserved : goal.loop-a-preserved
-loop-a-preserved c = adds_more c.loop-a.a (λ p n. need_part p n c.args.step) c.loop-a.invariant c.need_clauses.ensures
+loop-a-preserved c = adds_more _ c.loop-a.invariant c.need_clauses.ensures
 
 pub returns : goal.returns
 unfolding need_clauses
-returns c = adds_actions c.loop-a.a (λ p n. need_part p n c.args.step) c.loop-a.invariant c.loop-a.auto.a-end c.loop-a-test.false
+returns c = adds_actions _ c.loop-a.invariant c.loop-a.auto.a-end c.loop-a-test.false

@@ -1,14 +1,14 @@
 use Rattle.paper.specs.Lists.{only}
 use Rattle.sheet.specs.Contents.{contents}
-use Rattle.theory.proofs.Parts.{setter_part, setters_are}
+use Rattle.theory.proofs.Parts.{setters_are}
 use Rattle.theory.proofs.Building.{pushes_as, pushes_start, pushes_more, pushes_rules}
 use Rattle.theory.proofs.Builder.push_setters.Goals as goal
 
 pub loop-j-init : goal.loop-j-init
-loop-j-init c = pushes_start (setter_part c.args.value c.args.k c.args.step)
+loop-j-init c = pushes_start _
 
 pub loop-j-preserved : goal.loop-j-preserved
-loop-j-preserved c = pushes_more c.loop-j.j (setter_part c.args.value c.args.k c.args.step) c.loop-j.invariant (pushes_as (λ n i. only (c.sets-wanted.ensures i) (c.z-z.ensures n i)) c.push_if.ensures)
+loop-j-preserved c = pushes_more _ c.loop-j.invariant (pushes_as (λ n i. only (c.sets-wanted.ensures i) (c.z-z.ensures n i)) c.push_if.ensures)
 
 pub returns : goal.returns
-returns c = pushes_as (λ n. setters_are (contents c.args.self.now.sheet) n _ _ _) (pushes_rules c.loop-j.j (setter_part c.args.value c.args.k c.args.step) c.loop-j.invariant c.loop-j.auto.j-end c.loop-j-test.false)
+returns c = pushes_as (λ n. setters_are (contents c.args.self.now.sheet) n _ _ _) (pushes_rules _ c.loop-j.invariant c.loop-j.auto.j-end c.loop-j-test.false)
