@@ -40,17 +40,20 @@ unfolding fives_of
 rule_is p rules j e h = ap (λ (l : List (List ℕ)). get_or l j []) e ∙ value_at_lem (λ k. fives (rule_of p k)) [] 24 j h
 
 -- every rule's action is one of the sheet's
-pub rule_acts : (p : Sheet) (j : ℕ) → Fine p → j < p.R → (1 ≤ (rule_of p j).action) × ((rule_of p j).action ≤ 12)
-unfolding good_rule rule_of
-rule_acts p j fine l =
+pub rule_acts : (b : List ℕ) (t : Trailer) (j : ℕ) (rules : List (List ℕ)) → Fine (sheet_of b t) → rules ≡ fives_of (sheet_of b t) → j < 24 → j < t.rules
+    → (1 ≤ get_or (get_or rules j []) 0 0) × (get_or (get_or rules j []) 0 0 ≤ 12)
+unfolding good_rule rule_of sheet_of
+rule_acts b t j rules fine e h l =
+    let p = sheet_of b t in
     let R = rule_of p j in
-    let h : j < length p.rules = omega (arith, fine.rules_count) in
-    let g = all_get_d (good_rule p.F p.A) (record { action = 0; cond1 = 0; cond0 = 0; set1 = 0; set0 = 0 }) p.rules fine.rules_fine j h in
+    let i : j < length p.rules = omega (arith, fine.rules_count) in
+    let g = all_get_d (good_rule p.F p.A) (record { action = 0; cond1 = 0; cond0 = 0; set1 = 0; set0 = 0 }) p.rules fine.rules_fine j i in
     let d = (and_e (leb 1 R.action && leb R.action p.A) (good_pair p.F R.cond1 R.cond0 && good_pair p.F R.set1 R.set0) g).0 in
     let a = and_e (leb 1 R.action) (leb R.action p.A) d in
     let x = leb-true 1 R.action a.0 in
     let y = leb-true R.action p.A a.1 in
-    (x, omega (arith, fine.actions_most))
+    let q = ap (λ (r : List ℕ). get_or r 0 0) (rule_is p rules j e h) in
+    (omega arith, omega (arith, fine.actions_most))
 
 -- ---- a fact's literals
 module _ (p : Sheet) (n : ℕ) (t : Moment) (one nil k : ℕ) {a b : Bool} {X Y : Lit} (ea : a ≡ bit one k) (eb : b ≡ bit nil k) where

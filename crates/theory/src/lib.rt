@@ -2,7 +2,7 @@
 // arrays.
 #![tactic(auto)]
 
-ghost use Rattle.std.specs.Prelude.{◌≡◌, true, false, not, ◌&&◌, [], ◌∷◌, ◌++◌, map, ℕ, ◌+◌, ◌*◌, ◌≤◌, ◌<◌, ltb, length, drop};
+ghost use Rattle.std.specs.Prelude.{◌≡◌, true, false, not, ◌&&◌, [], ◌∷◌, ◌++◌, map, ℕ, ◌+◌, ◌*◌, ◌≤◌, ◌<◌, ltb, length, get_or, drop};
 ghost use Rattle.paper.specs.Lists.{only};
 ghost use Rattle.paper.specs.Counting.{bit, before, after};
 ghost use Rattle.paper.specs.Sheet as paper;
@@ -156,11 +156,12 @@ impl Builder<'_, '_> {
         }
     }
 
-    // Rule j: action, cond1, cond0, set1, set0.
-    #[tactic(auto, using(crate::proofs::Parts::rule_is))]
+    // Rule j: action, cond1, cond0, set1, set0. Its action is one of the sheet's.
+    #[tactic(auto, using(crate::proofs::Parts::rule_is, crate::proofs::Parts::rule_acts))]
     fn rule(&self, j: usize) -> [u16; 5]
         requires { j < 24 }
-        ensures { result ≡ fives (rule_of (contents self.now.sheet) j) }
+        ensures is { result ≡ fives (rule_of (contents self.now.sheet) j) }
+        ensures acts { j < self.now.sheet.parts.trailer.rules → (1 ≤ get_or result 0 0) × (get_or result 0 0 ≤ 12) }
     {
         self.rules[j]
     }
@@ -485,6 +486,7 @@ impl Builder<'_, '_> {
         requires { (moment.0 ≤ 8) × (from + 4 * count ≤ length bytes.now) }
         ensures { Adds (λ p n. clauses.at_moment p n moment (map (paper.masks_at bytes.now) (paper.offsets from 4 count))) self.old self.new }
     {
+        // A clause is named by its offset in the sheet, as the definitions name it.
         for i in 0..count {
             self.clause(moment, Masks::read(bytes, from + 4 * i));
         }
