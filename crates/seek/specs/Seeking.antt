@@ -1,4 +1,4 @@
--- What the search answers. Not in document 01.
+-- What the search answers.
 -- Assumes nothing.
 use Rattle.std.specs.Prelude.{◌≡◌, List, ℕ, take, Option, Some, None}
 use Rattle.std.proofs.Math.Option as math
