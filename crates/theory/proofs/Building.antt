@@ -14,7 +14,7 @@ use Rattle.variables.specs.Numbering.{Counts}
 use Rattle.variables.proofs.Laws.{sheet_counts}
 use Rattle.theory.specs.declared.Builder.{Builder}
 use Rattle.theory.specs.Making as making
-use Rattle.theory.specs.Making.{besides}
+use Rattle.theory.specs.Making.{beside}
 use Rattle.theory.specs.Building.{Still, Pushes, Ends, Adds}
 use Rattle.theory.proofs.Laws as laws
 
@@ -58,11 +58,12 @@ pushes_unwanted w l e = rw e pushes_none
 pub adds_none : {a : Builder} → Adds (λ p n. []) a a
 adds_none = record { still = still; adds = λ n. laws.adds_none }
 
+-- a later part, for the sheet of the first
+later : {D : Sheet → ℕ → Clauses} {a b c : Builder} → Still a b → Adds D b c → (n : ℕ) → making.Adds (D (contents a.sheet) n) b.literals.now c.literals.now b.ends.now c.ends.now b.made c.made
+later {D} {b = b} {c} s y n = subst (λ t. making.Adds (D (contents t) n) b.literals.now c.literals.now b.ends.now c.ends.now b.made c.made) s.sheet (y.adds n)
+
 pub adds_then : {C D : Sheet → ℕ → Clauses} {a b c : Builder} → Adds C a b → Adds D b c → Adds (λ p n. C p n ++ D p n) a c
-adds_then {D = D} {b = b} {c} x y = record {
-  still = still_then x.still y.still;
-  adds = λ n. laws.adds_then (x.adds n) (subst (λ s. making.Adds (D (contents s) n) b.literals.now c.literals.now b.ends.now c.ends.now b.made c.made) x.still.sheet (y.adds n));
-}
+adds_then x y = record { still = still_then x.still y.still; adds = λ n. laws.adds_then (x.adds n) (later x.still y n) }
 
 pub adds_as : {C D : Sheet → ℕ → Clauses} {a b : Builder} → ((n : ℕ) → C (contents a.sheet) n ≡ D (contents a.sheet) n) → Adds C a b → Adds D a b
 adds_as {a = a} {b} e x = record {
@@ -87,11 +88,11 @@ pub adds_unwanted : {a : Builder} (w : Bool) (c : Sheet → ℕ → Clause) → 
 unfolding only
 adds_unwanted w c e = rw e adds_none
 
-pub adds_ahead : {a b : Builder} {w ahead : Bool} {x l : Lit} → w ≡ true → ahead ≡ true → Adds (λ p n. (x ∷ (l ∷ [])) ∷ []) a b → Adds (λ p n. only w (besides ahead x l)) a b
+pub adds_ahead : {a b : Builder} {w ahead : Bool} {x l : Lit} → w ≡ true → ahead ≡ true → Adds (λ p n. (x ∷ (l ∷ [])) ∷ []) a b → Adds (λ p n. only w (beside ahead x l)) a b
 unfolding only
 adds_ahead e f y = rw (e, f) y
 
-pub adds_behind : {a b : Builder} {w ahead : Bool} {x l : Lit} → w ≡ true → ahead ≡ false → Adds (λ p n. (l ∷ (x ∷ [])) ∷ []) a b → Adds (λ p n. only w (besides ahead x l)) a b
+pub adds_behind : {a b : Builder} {w ahead : Bool} {x l : Lit} → w ≡ true → ahead ≡ false → Adds (λ p n. (l ∷ (x ∷ [])) ∷ []) a b → Adds (λ p n. only w (beside ahead x l)) a b
 unfolding only
 adds_behind e f y = rw (e, f) y
 
@@ -114,7 +115,7 @@ adds_start f = adds_none
 
 pub adds_more : {k : ℕ} (f : Sheet → ℕ → ℕ → Clauses) {a b c : Builder} → Adds (λ p n. each (up_from 0 k) (f p n)) a b → Adds (λ p n. f p n k) b c
     → Adds (λ p n. each (up_from 0 (k + 1)) (f p n)) a c
-adds_more {k} f {a} x y = adds_as (λ n. sym (each_more (f (contents a.sheet) n) k)) (adds_then x y)
+adds_more {k} f {a} x y = record { still = still_then x.still y.still; adds = λ n. laws.adds_more k (f (contents a.sheet) n) (x.adds n) (later x.still y n) }
 
 module _ {k : ℕ} (f : Sheet → ℕ → ℕ → Clause) {a b : Builder} (x : Pushes (λ p n. each (up_from 0 k) (f p n)) a b) where
   pub pushes_facts : k ≤ a.sheet.parts.trailer.facts → a.sheet.parts.trailer.facts ≤ k → Pushes (λ p n. each (facts p n) (f p n)) a b

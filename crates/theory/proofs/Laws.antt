@@ -9,16 +9,16 @@ use lib.ListN.{drop, length, take, set, length-append, length-set}
 use lib.Seq.{take-suc-set, drop-set-lt}
 use Rattle.paper.specs.declared.Lit.{Lit}
 use Rattle.paper.specs.declared.Moment.{Moment}
-use Rattle.paper.specs.Lists.{only, each, filter}
+use Rattle.paper.specs.Lists.{only, each, up_from, filter}
 use Rattle.paper.specs.Counting.{bit}
 use Rattle.paper.specs.Sheet.{Sheet}
 use Rattle.paper.specs.Clauses.{Clause, Clauses, yes·, no·, neg, fact, facts, literals}
 use Rattle.paper.specs.Circuit.{lits}
-use Rattle.bits.proofs.Upward.{each_last}
+use Rattle.bits.proofs.Upward.{each_last, each_more}
 use Rattle.bits.proofs.Agree.{drop_later}
 use Rattle.theory.specs.declared.Filled.{Filled}
 use Rattle.theory.specs.Flat.{Fit, Stored, code_of, codes, ends_from}
-use Rattle.theory.specs.Making.{Holds, Pushes, Ends, Adds, fact_as, literals_as, besides}
+use Rattle.theory.specs.Making.{Holds, Pushes, Ends, Adds, fact_as, literals_as, beside}
 
 -- ---- lists of lists
 module _ {A B : Type 0} where
@@ -41,6 +41,35 @@ ends_append i (d ∷ S) c =
 codes_append : (S : Clauses) (c : Clause) → codes (S ++ (c ∷ [])) ++ [] ≡ codes S ++ map code_of c
 unfolding codes
 codes_append S c = append-nil (codes (S ++ (c ∷ []))) ∙ each_last S c (λ c. map code_of c)
+
+-- a literal is stored
+pub pushed : (L : List ℕ) (m : Filled) (l : Lit) (v : ℕ) → v ≡ code_of l → m.literals < length L
+    → Pushes (l ∷ []) L (set L m.literals v) m (record { literals = m.literals + 1; clauses = m.clauses })
+pushed L m l v e h = record {
+  pushes = λ E S c k. record { stored = holds E S c k };
+  clauses_stay = refl;
+  literals_grow = omega arith;
+  literals_behind = drop-set-lt (m.literals + 1) L m.literals v (omega arith);
+}
+  where
+    holds : (E : List ℕ) (S : Clauses) (c : Clause) → Holds L E m S c → Fit (set L m.literals v) E S (c ++ (l ∷ []))
+        → Stored (set L m.literals v) E (record { literals = m.literals + 1; clauses = m.clauses }) S (c ++ (l ∷ []))
+    holds E S c k f =
+        let n = length-append c (l ∷ []) in
+        let a = f.literals_fit in
+        let b = f.literals_most in
+        let d = length-set L m.literals v in
+        let s = k.stored (record { literals_fit = omega arith; literals_most = omega arith; clauses_fit = f.clauses_fit; clauses_most = f.clauses_most }) in
+        let x = s.literals_are in
+        record {
+          clauses_are = s.clauses_are;
+          literals_are = omega arith;
+          literals_stored =
+              ap (λ (i : ℕ). take i (set L m.literals v)) (add-one m.literals) ∙ take-suc-set L m.literals v h
+              ∙ (λ i. s.literals_stored i ++ (e i ∷ []))
+              ∙ append_assoc (codes S) (map code_of c) (code_of l ∷ []) ∙ ap (λ z. codes S ++ z) (sym (map-append code_of c (l ∷ [])));
+          ends_stored = s.ends_stored;
+        }
 
 -- an end is stored
 pub ended : (E : List ℕ) (m : Filled) → m.clauses < length E → Ends E (set E m.clauses m.literals) m (record { literals = m.literals; clauses = m.clauses + 1 })
@@ -188,6 +217,10 @@ module _ (p : Sheet) (n : ℕ) (t : Moment) (one nil : ℕ) where
       map-append neg (only (bit one k) (yes· (fact p n t k))) (only (bit nil k) (no· (fact p n t k)))
       ∙ (λ i. map_only neg (bit one k) (yes· (fact p n t k)) i ++ map_only neg (bit nil k) (no· (fact p n t k)) i)))
 
-  pub besides_each : (ahead : Bool) (x : Lit) → map (besides ahead x) (literals p n t one nil) ≡ each (facts p n) (λ k. map (besides ahead x) (fact_as p n true t one nil k))
+  pub besides_each : (ahead : Bool) (x : Lit) → map (beside ahead x) (literals p n t one nil) ≡ each (facts p n) (λ k. map (beside ahead x) (fact_as p n true t one nil k))
   unfolding literals
-  besides_each ahead x = map_each (besides ahead x) (facts p n) (fact_as p n true t one nil)
+  besides_each ahead x = map_each (beside ahead x) (facts p n) (fact_as p n true t one nil)
+
+-- ---- a loop's next turn
+pub adds_more : (n : ℕ) (f : ℕ → Clauses) {L M N E G H : List ℕ} {m k o : Filled} → Adds (each (up_from 0 n) f) L M E G m k → Adds (f n) M N G H k o → Adds (each (up_from 0 (n + 1)) f) L N E H m o
+adds_more n f {L} {N = N} {E} {H = H} {m} {o = o} a b = subst (λ D. Adds D L N E H m o) (sym (each_more f n)) (adds_then a b)

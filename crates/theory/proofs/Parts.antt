@@ -16,7 +16,7 @@ use Rattle.paper.specs.Lists.{only, each, up_from, filter}
 use Rattle.paper.specs.Counting.{bit, overlap, before}
 use Rattle.paper.specs.Sheet.{Sheet, Masks, Fine, masks_at, offsets, good_rule, good_pair, sheet_of, starts_at, goals_at, body_at}
 use Rattle.paper.specs.Step.{need_of, rule_of}
-use Rattle.paper.specs.Clauses.{Clause, Clauses, yes·, no·, neg, fact, action, z, actions, rule_nos, literals, at_moment, every_pair, theory_of, theory}
+use Rattle.paper.specs.Clauses.{Clause, Clauses, yes·, no·, neg, fact, action, z, facts, actions, rule_nos, literals, at_moment, need_clauses, z_clauses, effect_clauses, exclusions, frames, every_pair, theory_of, theory}
 use Rattle.std.proofs.lemmas.Bool.{not-false, not-true, false_from_ne_true}
 use Rattle.paper.proofs.Basic.{and_e}
 use Rattle.paper.proofs.Lists.{all_get_d}
@@ -27,7 +27,7 @@ use Rattle.bits.proofs.Filled.{value_at_lem}
 use Rattle.sheet.specs.Reading.{pair, fives, pairs_of, fives_of}
 use Rattle.theory.specs.declared.Filled.{Filled}
 use Rattle.theory.specs.Flat.{codes, ends_from, Stored}
-use Rattle.theory.specs.Making.{Holds, Adds, lit, fact_as, literals_as, besides, set_to, z_part, exclusion_part, exclusions_of, setters, steps_of}
+use Rattle.theory.specs.Making.{Holds, Adds, lit, fact_as, literals_as, beside, need_part, z_part, effect_part, exclusion_part, exclusions_of, setters, frame_part, steps_of}
 use Rattle.theory.proofs.Laws.{map_only, map_filter, as_true}
 
 -- ---- the arrays of needs and rules
@@ -61,35 +61,58 @@ module _ (p : Sheet) (n : ℕ) (t : Moment) (one nil k : ℕ) {a b : Bool} {X Y 
   fact_pushed ex ey = let e = ey ∙ ap neg ex in λ i. only (ea i) (ex i) ++ only (eb i) (e i)
 
   pub fact_paired : (ahead : Bool) (x : Lit) → X ≡ lit (fact p n t k) true → Y ≡ neg X
-      → only a (besides ahead x X) ++ only b (besides ahead x Y) ≡ map (besides ahead x) (fact_as p n true t one nil k)
+      → only a (beside ahead x X) ++ only b (beside ahead x Y) ≡ map (beside ahead x) (fact_as p n true t one nil k)
   fact_paired ahead x ex ey =
       let e = ey ∙ ap neg ex in
-      (λ i. only (ea i) (besides ahead x (ex i)) ++ only (eb i) (besides ahead x (e i)))
-      ∙ sym (map-append (besides ahead x) (only (bit one k) (lit (fact p n t k) true)) (only (bit nil k) (lit (fact p n t k) false))
-      ∙ (λ i. map_only (besides ahead x) (bit one k) (lit (fact p n t k) true) i ++ map_only (besides ahead x) (bit nil k) (lit (fact p n t k) false) i))
+      (λ i. only (ea i) (beside ahead x (ex i)) ++ only (eb i) (beside ahead x (e i)))
+      ∙ sym (map-append (beside ahead x) (only (bit one k) (lit (fact p n t k) true)) (only (bit nil k) (lit (fact p n t k) false))
+      ∙ (λ i. map_only (beside ahead x) (bit one k) (lit (fact p n t k) true) i ++ map_only (beside ahead x) (bit nil k) (lit (fact p n t k) false) i))
 
 -- ---- a rule's z, by its five numbers
 pub z_made : (p : Sheet) (n : ℕ) (t : Step) (j : ℕ) (rule : List ℕ) {A Z B Y : Lit} {s u : Moment} → rule ≡ fives (rule_of p j)
     → A ≡ lit (action p n t (get_or rule 0 0 - 1)) true → Z ≡ lit (z p n t j) false → B ≡ neg A → Y ≡ neg Z → s ≡ before t → u ≡ before t
     → ((A ∷ (Z ∷ [])) ∷ [])
-    ++ (map (besides false Z) (literals p n s (get_or rule 1 0) (get_or rule 2 0)) ++ ((map neg (literals p n u (get_or rule 1 0) (get_or rule 2 0)) ++ (B ∷ (Y ∷ []))) ∷ []))
+    ++ (map (beside false Z) (literals p n s (get_or rule 1 0) (get_or rule 2 0)) ++ ((map neg (literals p n u (get_or rule 1 0) (get_or rule 2 0)) ++ (B ∷ (Y ∷ []))) ∷ []))
     ≡ z_part p n t j
 z_made p n t j rule er ea ez eb ey es eu =
     let a = ea ∙ ap (λ (l : List ℕ). lit (action p n t (get_or l 0 0 - 1)) true) er in
     let b = eb ∙ ap neg a in
     let y = ey ∙ ap neg ez in
     λ i. (a i ∷ (ez i ∷ []))
-    ∷ (map (besides false (ez i)) (literals p n (es i) (get_or (er i) 1 0) (get_or (er i) 2 0)) ++ ((map neg (literals p n (eu i) (get_or (er i) 1 0) (get_or (er i) 2 0)) ++ (b i ∷ (y i ∷ []))) ∷ []))
+    ∷ (map (beside false (ez i)) (literals p n (es i) (get_or (er i) 1 0) (get_or (er i) 2 0)) ++ ((map neg (literals p n (eu i) (get_or (er i) 1 0) (get_or (er i) 2 0)) ++ (b i ∷ (y i ∷ []))) ∷ []))
 
 -- ---- exclusions, and the rules that set a fact
 pub exclusions_of_lem : (p : Sheet) (n : ℕ) (t : Step) (a : ℕ) → each (actions p n) (exclusion_part p n t a) ≡ exclusions_of p n t a
 exclusions_of_lem p n t a = sym (map_filter (λ b. no· (action p n t a) ∷ (no· (action p n t b) ∷ [])) (λ b. ltb a b && every_pair a b) (actions p n))
 
-abbrev pub setter_part : Bool → ℕ → Step → Sheet → ℕ → ℕ → Clause
-setter_part value k t p n j = only (bit (set_to value (rule_of p j)) k) (yes· (z p n t j))
+abbrev pub setter_part : Sheet → ℕ → Step → (ℕ → ℕ) → ℕ → ℕ → Clause
+setter_part p n t mask k r = only (bit (mask r) k) (yes· (z p n t r))
 
-pub setters_are : (p : Sheet) (n : ℕ) (t : Step) (value : Bool) (k : ℕ) → each (rule_nos p n) (setter_part value k t p n) ≡ setters p n t value k
-setters_are p n t value k = sym (map_filter (λ r. yes· (z p n t r)) (λ r. bit (set_to value (rule_of p r)) k) (rule_nos p n))
+pub setters_are : (p : Sheet) (n : ℕ) (t : Step) (mask : ℕ → ℕ) (k : ℕ) → each (up_from 0 p.R) (setter_part p n t mask k) ≡ setters p n t mask k
+unfolding rule_nos
+setters_are p n t mask k = sym (map_filter (λ r. yes· (z p n t r)) (λ r. bit (mask r) k) (up_from 0 p.R))
+
+-- ---- each part of the clause maker adds the definition's clauses
+module _ (p : Sheet) (n : ℕ) (t : Step) where
+  pub needs_are : each (up_from 0 p.A) (need_part p n t) ≡ need_clauses p n t
+  unfolding need_clauses actions
+  needs_are = refl
+
+  pub z_are : each (up_from 0 p.R) (z_part p n t) ≡ z_clauses p n t
+  unfolding z_clauses rule_nos
+  z_are = refl
+
+  pub effects_are : each (up_from 0 p.R) (effect_part p n t) ≡ effect_clauses p n t
+  unfolding effect_clauses rule_nos
+  effects_are = refl
+
+  pub exclusions_are : each (up_from 0 p.A) (exclusions_of p n t) ≡ exclusions p n every_pair t
+  unfolding exclusions actions
+  exclusions_are = refl
+
+  pub frames_are : each (up_from 0 p.F) (frame_part p n t) ≡ frames p n t
+  unfolding frames facts rule_nos
+  frames_are = refl
 
 -- ---- start and goal clauses
 module _ (p : Sheet) (n : ℕ) (t : Moment) where

@@ -49,10 +49,14 @@ fact_as p n sign t one nil k = only (bit one k) (lit (fact p n t k) sign) ++ onl
 unfoldable pub literals_as : Sheet → ℕ → Bool → Moment → ℕ → ℕ → Clause
 literals_as p n sign t one nil = each (facts p n) (fact_as p n sign t one nil)
 
--- a literal and another one, which stands ahead or behind
-abbrev pub besides : Bool → Lit → Lit → Clause
-besides true x l = x ∷ (l ∷ [])
-besides false x l = l ∷ (x ∷ [])
+-- a literal and another one, which stands ahead or behind; a literal and the opposite of the variable x, the same way
+abbrev pub beside : Bool → Lit → Lit → Clause
+beside true x l = x ∷ (l ∷ [])
+beside false x l = l ∷ (x ∷ [])
+
+abbrev pub besides : Bool → ℕ → Lit → Clause
+besides true x l = no· x ∷ (l ∷ [])
+besides false x l = l ∷ (no· x ∷ [])
 
 -- the facts that a rule sets to this value
 abbrev pub set_to : Bool → Rule → ℕ
@@ -61,19 +65,19 @@ set_to false r = r.set0
 
 -- the clauses of one action's needs, of one rule's z and effects, of one action's exclusions, of one fact's frames, of all steps
 abbrev pub need_part : Sheet → ℕ → Step → ℕ → Clauses
-need_part p n t a = map (besides false (no· (action p n t a))) (literals p n (before t) (need_of p a).need1 (need_of p a).need0)
+need_part p n t a = map (besides false (action p n t a)) (literals p n (before t) (need_of p a).need1 (need_of p a).need0)
 
 abbrev pub z_of : Sheet → ℕ → Step → ℕ → ℕ → ℕ → ℕ → Clauses
 z_of p n t r a one nil =
     (yes· (action p n t (a - 1)) ∷ (no· (z p n t r) ∷ []))
-    ∷ (map (besides false (no· (z p n t r))) (literals p n (before t) one nil)
+    ∷ (map (besides false (z p n t r)) (literals p n (before t) one nil)
     ++ ((map neg (literals p n (before t) one nil) ++ (no· (action p n t (a - 1)) ∷ (yes· (z p n t r) ∷ []))) ∷ []))
 
 abbrev pub z_part : Sheet → ℕ → Step → ℕ → Clauses
 z_part p n t r = z_of p n t r (rule_of p r).action (rule_of p r).cond1 (rule_of p r).cond0
 
 abbrev pub effect_part : Sheet → ℕ → Step → ℕ → Clauses
-effect_part p n t r = map (besides true (no· (z p n t r))) (literals p n (after t) (rule_of p r).set1 (rule_of p r).set0)
+effect_part p n t r = map (besides true (z p n t r)) (literals p n (after t) (rule_of p r).set1 (rule_of p r).set0)
 
 abbrev pub exclusion_part : Sheet → ℕ → Step → ℕ → ℕ → Clauses
 exclusion_part p n t a b = only (ltb a b && every_pair a b) (no· (action p n t a) ∷ (no· (action p n t b) ∷ []))
@@ -81,14 +85,20 @@ exclusion_part p n t a b = only (ltb a b && every_pair a b) (no· (action p n t 
 abbrev pub exclusions_of : Sheet → ℕ → Step → ℕ → Clauses
 exclusions_of p n t a = map (λ b. no· (action p n t a) ∷ (no· (action p n t b) ∷ [])) (filter (λ b. ltb a b && every_pair a b) (actions p n))
 
-abbrev pub setters : Sheet → ℕ → Step → Bool → ℕ → Clause
-setters p n t value k = map (λ r. yes· (z p n t r)) (filter (λ r. bit (set_to value (rule_of p r)) k) (rule_nos p n))
+abbrev pub setters : Sheet → ℕ → Step → (ℕ → ℕ) → ℕ → Clause
+setters p n t mask k = map (λ r. yes· (z p n t r)) (filter (λ r. bit (mask r) k) (rule_nos p n))
 
-abbrev pub frame_of : Sheet → ℕ → Step → Bool → ℕ → Clause
-frame_of p n t value k = (lit (fact p n (before t) k) value ∷ setters p n t value k) ++ (lit (fact p n (after t) k) (not value) ∷ [])
+abbrev pub frame_of : Sheet → ℕ → Step → (ℕ → ℕ) → Bool → ℕ → Clause
+frame_of p n t mask sign k = (lit (fact p n (before t) k) sign ∷ setters p n t mask k) ++ (lit (fact p n (after t) k) (not sign) ∷ [])
+
+abbrev pub setters_to : Sheet → ℕ → Step → Bool → ℕ → Clause
+setters_to p n t value k = setters p n t (λ r. set_to value (rule_of p r)) k
+
+abbrev pub frame_to : Sheet → ℕ → Step → Bool → ℕ → Clause
+frame_to p n t value k = frame_of p n t (λ r. set_to value (rule_of p r)) value k
 
 abbrev pub frame_part : Sheet → ℕ → Step → ℕ → Clauses
-frame_part p n t k = frame_of p n t false k ∷ (frame_of p n t true k ∷ [])
+frame_part p n t k = frame_to p n t false k ∷ (frame_to p n t true k ∷ [])
 
 abbrev pub steps_of : Sheet → ℕ → Clauses
 steps_of p n = each (up_from 0 n) (λ i. step_clauses p n every_pair (record { 0 = i }))

@@ -228,7 +228,7 @@ impl Builder<'_, '_> {
 
     // A clause of a literal and x, which stands ahead or behind, where it is wanted.
     fn pair_if(&mut self, wanted: bool, l: Literal, x: Literal, ahead: bool)
-        ensures { Adds (λ p n. only wanted (spec.besides ahead (as_lit x) (as_lit l))) self.old self.new }
+        ensures { Adds (λ p n. only wanted (spec.beside ahead (as_lit x) (as_lit l))) self.old self.new }
     {
         if !wanted {
             return;
@@ -263,7 +263,7 @@ impl Builder<'_, '_> {
     // The clauses of x and the literals that fact k has in two masks.
     fn pair_fact(&mut self, x: Literal, ahead: bool, moment: Moment, masks: Masks, k: usize)
         requires { (moment.0 ≤ 8) × (k < 12) }
-        ensures { Adds (λ p n. map (spec.besides ahead (as_lit x)) (spec.fact_as p n true moment masks.one masks.nil k)) self.old self.new }
+        ensures { Adds (λ p n. map (spec.beside ahead (as_lit x)) (spec.fact_as p n true moment masks.one masks.nil k)) self.old self.new }
     {
         let y = self.fact(moment, k, true);
         self.pair_if(bits::bit(masks.one, k), y, x, ahead);
@@ -273,7 +273,7 @@ impl Builder<'_, '_> {
     // A clause of x with each literal of two masks at a moment.
     fn pair_facts(&mut self, x: Literal, ahead: bool, moment: Moment, masks: Masks)
         requires { moment.0 ≤ 8 }
-        ensures { Adds (λ p n. map (spec.besides ahead (as_lit x)) (clauses.literals p n moment masks.one masks.nil)) self.old self.new }
+        ensures { Adds (λ p n. map (spec.beside ahead (as_lit x)) (clauses.literals p n moment masks.one masks.nil)) self.old self.new }
     {
         let facts = self.sheet.parts.trailer.facts;
         for k in 0..facts {
@@ -404,7 +404,7 @@ impl Builder<'_, '_> {
     // The z of the rules that set fact k to this value.
     fn push_setters(&mut self, step: Step, k: usize, value: bool)
         requires { (step.0 < 8) × (k < 12) }
-        ensures { Pushes (λ p n. spec.setters p n step value k) self.old self.new }
+        ensures { Pushes (λ p n. spec.setters_to p n step value k) self.old self.new }
     {
         let rules = self.sheet.parts.trailer.rules;
         for j in 0..rules {
@@ -417,7 +417,7 @@ impl Builder<'_, '_> {
     // Fact k keeps the other value than this, unless a rule fires that sets it to this one.
     fn frame(&mut self, step: Step, k: usize, value: bool)
         requires { (step.0 < 8) × (k < 12) }
-        ensures { Adds (λ p n. spec.frame_of p n step value k ∷ []) self.old self.new }
+        ensures { Adds (λ p n. spec.frame_to p n step value k ∷ []) self.old self.new }
     {
         let x = self.fact(step.before(), k, value);
         let y = self.fact(step.after(), k, !value);
