@@ -8,7 +8,7 @@ use native.Mathlib.Omega.{arith}
 use borrow.Author.Tests.{lt-ltb, le-ltb}
 use lib.Dec.{ltb}
 use lib.ListN.{length, get_or, set, take, drop, length-append, length-drop}
-use lib.Seq.{length-take-le, take-suc, take_at, drop_at, drop-drop, sets-eq, paste-zero}
+use lib.Seq.{length-take-le, take-length, take-suc, take_at, drop_at, drop-drop, sets-eq, paste-zero}
 use Rattle.paper.specs.Lists.{each}
 use Rattle.paper.specs.Program.{decimal_in, decimal, spaced, line}
 use Rattle.paper.proofs.Basic.{by}
@@ -150,6 +150,9 @@ entries_more i s h l w v = writes_as (sym (entries_last s i l) ∙ sym (ap (λ k
 
 pub entries_fit_lem : (i : ℕ) (s : List ℕ) {at m : ℕ} {T U : List ℕ} → Writes at (each (take i s) spaced) T U m → m ≤ at + 11 * i
 entries_fit_lem i s w = let l = entries_length i s in let e = w.end_is in omega arith
+
+pub entries_fit_all : (s : List ℕ) {at m : ℕ} {T U : List ℕ} → Writes at (each s spaced) T U m → m ≤ at + 11 * length s
+entries_fit_all s w = entries_fit_lem (length s) s (writes_as (ap (λ l. each l spaced) (sym (take-length s))) w)
 
 -- ---- the line
 line_parts : (code place horizon : ℕ) (s : List ℕ)

@@ -19,7 +19,7 @@ use Rattle.paper.specs.Sheet.{Sheet, decode, start_count}
 use Rattle.paper.specs.Step.{is_plan}
 use Rattle.paper.specs.Clauses.{theory}
 use Rattle.paper.specs.Circuit.{Table, Built, built_of}
-use Rattle.paper.specs.Operations.{◌>>=◌, row_size, room, Schedule, valid, First, first_plan, Outcome, stopped, searched, at_horizon, no_plan, plan_from, plan_starts, plan_sheet, plan_of, answer_of, schedule_of}
+use Rattle.paper.specs.Operations.{◌>>=◌, row_size, room, Schedule, valid, First, first_plan, Outcome, searched, at_horizon, no_plan, plan_from, plan_starts, plan_sheet, plan_of, answer_of, schedule_of}
 use Rattle.paper.specs.Answers.{plan_code, plan_numbers, plan_schedule}
 use Rattle.paper.specs.Program.{line, plan_line, printed}
 use Rattle.paper.proofs.FirstSchedule.{schedules_first}

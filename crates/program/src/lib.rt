@@ -29,7 +29,7 @@ fn plan_line(input: &[u8], out: &mut [u8]) -> usize
     let p = plan::plan(input, 1000000, &mut rows, &mut schedule);
     let numbers = answers::plan_numbers(p);
     let code = answers::plan_code(p);
-    line::line(code, numbers[0], numbers[1], &schedule, entries(p), out)
+    line::line(code, numbers[0], numbers[1], &schedule[..entries(p)], out)
 }
 
 // What the program prints for its input, and how many bytes that are; input over 4,608 bytes is no sheet.
@@ -40,8 +40,7 @@ pub fn print(input: &[u8], out: &mut [u8]) -> usize
     ensures fits { result ≤ length out.new }
 {
     if input.len() > 4608 {
-        let none = [0u8; 8];
-        return line::line(3, 0, 0, &none, 0, out);
+        return line::line(3, 0, 0, &[], out);
     }
     plan_line(input, out)
 }
