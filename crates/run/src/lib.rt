@@ -84,6 +84,7 @@ fn act(
 }
 
 // An entry of a schedule in state s: 0 is idle.
+// The arrays stand beside their count, and `Writes` is a premise: a type that tied them to a sheet would ask callers for one.
 pub fn step(
     needs: [[u16; 2]; 12],
     rules: [[u16; 5]; 24],
