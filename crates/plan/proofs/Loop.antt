@@ -95,6 +95,10 @@ at_next p limit T last n U a U' h l t d =
       alike = subst (Alike T) (sym w.rows_are) (left_alike limit (theory p n) T a.built w.built_is);
     }
 
+-- at the end of the loop the horizon in hand is the last
+pub at_last_one : {p : Sheet} {limit : ℕ} {T : List ℕ} {last n : ℕ} {U : List ℕ} → At p limit T last n U → last ≤ n → At p limit T last last U
+at_last_one {p} {limit} {T} {last} {n} {U} h l = let m = h.most in let e : n ≡ last = omega arith in subst (λ k. At p limit T last k U) e h
+
 -- ---- the end
 closing_answer : (p : Sheet) (n : ℕ) (b : Built) (o : std.Option (List ℕ)) → closing n b o ≡ (closed p n b o).answer
 closing_answer p n (Err TooMuch) o = refl

@@ -1,14 +1,14 @@
 -- The operation plan: refusals, and where the horizons begin. Assumes nothing.
-use mathlib.Core.Path.{◌≡◌, refl, sym, ap, subst}
+use mathlib.Core.Path.{◌≡◌, refl, sym, subst}
 use mathlib.Core.List.{List}
 use Prim.Native.Nat.{ℕ, ◌≤◌, ◌<◌}
-use Rattle.std.specs.Prelude.{Result, Ok, Err}
+use Rattle.std.specs.Prelude.{Result, Err}
 use Rattle.paper.specs.declared.Fault.{Fault}
 use Rattle.paper.specs.declared.Fault.TheVariants.{ShortSchedule, NoStart}
 use Rattle.paper.specs.declared.Planned.{Planned}
-use Rattle.paper.specs.Sheet.{Sheet, start_count, decode}
-use Rattle.paper.specs.Operations.{◌>>=◌, Outcome, plan_sheet, plan_of}
-use Rattle.paper.proofs.Demand2.{sheet_short, sheet_no_start, plan_decoded}
+use Rattle.paper.specs.Sheet.{Sheet, start_count}
+use Rattle.paper.specs.Operations.{Outcome, plan_sheet}
+use Rattle.paper.proofs.Demand2.{sheet_short, sheet_no_start}
 use Rattle.plan.specs.Horizons.{Plans}
 
 -- a refusal leaves both buffers as they were lent
@@ -25,12 +25,3 @@ module _ (p : Sheet) (limit k bytes : ℕ) (T S : List ℕ) where
 
   pub no_start : p.H ≤ bytes → start_count p ≡ 0 → Plans T S (plan_sheet limit k bytes p) (Err NoStart) T S
   no_start h e = refused_plans T S NoStart (plan_sheet limit k bytes p) (sheet_no_start p limit k bytes h e)
-
--- from the sheet's bytes
-module _ (b : List ℕ) (limit k bytes : ℕ) (T S : List ℕ) where
-  pub plan_refused : (f : Fault) → Err f ≡ decode b → Plans T S (plan_of b limit k bytes) (Err f) T S
-  unfolding plan_of
-  plan_refused f e = refused_plans T S f (plan_of b limit k bytes) (ap (λ x. x >>= plan_sheet limit k bytes) (sym e))
-
-  pub plan_accepted : (p : Sheet) → Ok p ≡ decode b → plan_sheet limit k bytes p ≡ plan_of b limit k bytes
-  plan_accepted p e = sym (plan_decoded b p (sym e) limit k bytes)

@@ -1,13 +1,12 @@
 -- A table after one horizon and before the next: as long as it was lent, and untouched beyond room. Assumes nothing.
 use mathlib.Core.Path.{◌≡◌, refl, sym, ap, ◌∙◌, subst}
 use mathlib.Core.Bool.{◌&&◌}
-use mathlib.Core.List.{List, [], ◌∷◌, ◌++◌}
+use mathlib.Core.List.{List, [], ◌++◌}
 use mathlib.Core.Option.{Option}
-use Prim.Native.Nat.{ℕ, suc, ◌+◌, ◌-◌, ◌*◌, ◌/◌, ◌^◌, min, ◌≤◌, ◌<◌}
+use Prim.Native.Nat.{ℕ, ◌+◌, ◌-◌, ◌*◌, ◌/◌, ◌^◌, min, ◌≤◌, ◌<◌}
 use native.Mathlib.Omega.{arith}
 use lib.Dec.{ltb}
-use lib.ListN.{length, get_or, set, take, drop, replicate, length-set, take-append-drop}
-use lib.Seq.{take-suc, take-suc-set, drop-set-lt, drop-drop}
+use lib.ListN.{length, get_or, drop, replicate}
 use Rattle.paper.specs.declared.Trailer.{Trailer}
 use Rattle.paper.specs.declared.Whole.{Whole}
 use Rattle.paper.specs.declared.Limit.TheVariants.{TooMuch, NoRoom}
@@ -95,27 +94,6 @@ module _ (p : Sheet) (fine : Fine p) (n : ℕ) (h : n ≤ 8) (limit : ℕ) (T U 
       let w = answered limit (room T) (theory p n) x (sym b ∙ q) in
       let t : table_of U x.rows ≡ (compile (theory p n)).table = ap (λ X. table_of X x.rows) left_filled ∙ table_is p fine n h limit T x.effort x.rows x.root w in
       s ∙ (λ j. search (passes p n (t j) (sym w.root_is j)) (passes p n (t j) (sym w.root_is j)) (sym a j) n (z j)) ∙ search_plan p fine n
-
--- ---- the schedule buffer: i entries of s are copied to the front of what was lent as S
-pub record Copied (S s Z : List ℕ) (i : ℕ) : Type 0 where
-  pub same_length : length Z ≡ length S
-  pub front : take i Z ≡ take i s
-  pub rest : drop i Z ≡ drop i S
-
-pub copied_none : (S s : List ℕ) (i : ℕ) → i ≡ 0 → Copied S s S i
-copied_none S s i e = record { same_length = refl; front = ap (λ k. take k S) e ∙ sym (ap (λ k. take k s) e); rest = refl }
-
-pub copied_more : (S s Z : List ℕ) (i : ℕ) → i < length s → i < length Z → Copied S s Z i → Copied S s (set Z i (get_or s i 0)) (i + 1)
-copied_more S s Z i h l c =
-    let x : i + 1 ≡ suc i = omega arith in
-    record {
-      same_length = length-set Z i (get_or s i 0) ∙ c.same_length;
-      front = ap (λ k. take k (set Z i (get_or s i 0))) x ∙ take-suc-set Z i (get_or s i 0) l ∙ ap (λ z. z ++ (get_or s i 0 ∷ [])) c.front ∙ sym (take-suc s i 0 h) ∙ sym (ap (λ k. take k s) x);
-      rest = drop-set-lt (i + 1) Z i (get_or s i 0) (omega arith) ∙ sym (drop-drop 1 i Z) ∙ ap (drop 1) c.rest ∙ drop-drop 1 i S;
-    }
-
-pub copied_all : (S s Z : List ℕ) (i n : ℕ) → i ≡ n → Copied S s Z i → Z ≡ take n s ++ drop n S
-copied_all S s Z i n e c = sym (take-append-drop i Z) ∙ (λ j. c.front j ++ c.rest j) ∙ ap (λ k. take k s ++ drop k S) e
 
 -- ---- the starts, from the words that were filled
 pub filled_starts : (p : Sheet) (ms : List ℕ)

@@ -68,9 +68,7 @@ fn copy(out: &mut [u8], s: [u8; 8], n: usize)
     requires { (n ≤ 8) × (n ≤ length out.old) }
     ensures { out.new ≡ take n s ++ drop n out.old }
 {
-    for i in 0..n {
-        out[i] = s[i];
-    }
+    out[..n].copy_from_slice(&s[..n]);
 }
 
 // The answer where the circuit is whole, with the plan's entries in the schedule buffer if there is a plan.
@@ -111,16 +109,14 @@ fn horizons(sheet: Sheet, limit: u32, table: &mut [u8], schedule: &mut [u8]) -> 
     let starts = starts::start_words(sheet.parts);
     let mut values = [0u64; 65536];
     let last = sheet.parts.trailer.horizon;
-    let mut n: usize = 0;
-    while n < last {
+    for n in 0..last {
         let tried = try_horizon(sheet, n, limit, table, &starts, &mut values);
         if ends(tried) {
             return finish(n, tried, schedule);
         }
-        n += 1;
     }
-    let tried = try_horizon(sheet, n, limit, table, &starts, &mut values);
-    finish(n, tried, schedule)
+    let tried = try_horizon(sheet, last, limit, table, &starts, &mut values);
+    finish(last, tried, schedule)
 }
 
 // A sheet that was accepted: a schedule buffer of fewer than H bytes is refused, and so is a sheet without a start.

@@ -3,7 +3,7 @@ use native.Mathlib.Omega.{arith}
 use Rattle.sheet.specs.Contents.{contents}
 use Rattle.plan.specs.Horizons.{scheduled}
 use Rattle.plan.proofs.Tables.{filled_starts}
-use Rattle.plan.proofs.Loop.{at_next, plan_ended, plan_done}
+use Rattle.plan.proofs.Loop.{at_next, at_last_one, plan_ended, plan_done}
 use borrow.Author.Rules.{rules}
 use Rattle.plan.proofs.horizons.Goals as goal
 
@@ -38,5 +38,5 @@ returns c = let a = c.args in
     let l = c.loop-n in
     let f = c.finish-2 in
     let t = c.try_horizon-tried-2 in
-    plan_done (contents a.sheet) a.limit a.table.now a.schedule.now a.sheet.parts.trailer.horizon l.n l.table t.result _ l.invariant.3 t.ensures f.result _ f.ensures.answer
-    (f.ensures.schedule ∙ ap (scheduled l.n t.result.built t.result.found) l.invariant.1) (omega (arith, c.loop-n-test.false))
+    plan_done (contents a.sheet) a.limit a.table.now a.schedule.now a.sheet.parts.trailer.horizon a.sheet.parts.trailer.horizon l.table t.result _ (at_last_one l.invariant.3 (omega (arith, c.loop-n-test.false))) t.ensures f.result _ f.ensures.answer
+    (f.ensures.schedule ∙ ap (scheduled a.sheet.parts.trailer.horizon t.result.built t.result.found) l.invariant.1) (omega arith)
