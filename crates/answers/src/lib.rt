@@ -31,7 +31,7 @@ pub fn run_numbers(end: Result<Ended, Fault>) -> [u32; 4]
     ensures { result ≡ run_numbers end }
 {
     match end {
-        Ok(e) => [0, e.done, u32::from(e.state), bits::one_if(e.goal)],
+        Ok(e) => [0, e.done, u32::from(e.state), u32::from(e.goal)],
         Err(f) => [f.place(), 0, 0, 0],
     }
 }
@@ -64,7 +64,7 @@ pub fn judge_numbers(value: Result<bool, Fault>) -> [u32; 2]
     ensures { result ≡ judge_numbers value }
 {
     match value {
-        Ok(v) => [0, bits::one_if(v)],
+        Ok(v) => [0, u32::from(v)],
         Err(f) => [f.place(), 0],
     }
 }

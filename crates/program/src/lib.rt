@@ -9,6 +9,15 @@ ghost use Rattle.program.specs.Entries as spec;
 
 use paper::{Fault, Planned};
 
+// The effort limit of every plan.
+const EFFORT: u32 = 1_000_000;
+
+// The bytes of 4,000 rows.
+const ROWS: usize = 64_000;
+
+// A sheet has at most so many bytes.
+const LONGEST: usize = 4_608;
+
 // How many entries an answer has: a plan has one for each step.
 fn entries(p: Result<Planned, Fault>) -> usize
     ensures { result ≡ spec.entries p }
@@ -24,9 +33,9 @@ fn plan_line(input: &[u8], out: &mut [u8]) -> usize
     requires { 128 ≤ length out.old }
     ensures { Writes 0 (paper.plan_line (operation.plan_of input.now 1000000 4000 8)) out.old out.new result }
 {
-    let mut rows = [0u8; 64000];
+    let mut rows = [0u8; ROWS];
     let mut schedule = [0u8; 8];
-    let p = plan::plan(input, 1000000, &mut rows, &mut schedule);
+    let p = plan::plan(input, EFFORT, &mut rows, &mut schedule);
     let numbers = answers::plan_numbers(p);
     let code = answers::plan_code(p);
     line::line(code, numbers[0], numbers[1], &schedule[..entries(p)], out)
@@ -39,7 +48,7 @@ pub fn print(input: &[u8], out: &mut [u8]) -> usize
     ensures length { result ≡ length (paper.printed input.now) }
     ensures fits { result ≤ length out.new }
 {
-    if input.len() > 4608 {
+    if input.len() > LONGEST {
         return line::line(3, 0, 0, &[], out);
     }
     plan_line(input, out)

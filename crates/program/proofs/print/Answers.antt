@@ -4,8 +4,8 @@ use Rattle.program.proofs.Laws.{printed_long, printed_plan}
 use borrow.Author.Rules.{rules}
 use Rattle.program.proofs.print.Goals as goal
 
-pub returns-then-input-gt4608 : goal.returns-then-input-gt4608
-returns-then-input-gt4608 c = let h = printed_in _ _ _ _ (writes_as (printed_long c.args.input.now c.if-input-gt4608.true) c.line.ensures) in
+pub returns-then-input-gt-LONGEST : goal.returns-then-input-gt-LONGEST
+returns-then-input-gt-LONGEST c = let h = printed_in _ _ _ _ (writes_as (printed_long c.args.input.now c.if-input-gt-LONGEST.true) c.line.ensures) in
     record {
       printed = h.0;
       length = h.1.0;
