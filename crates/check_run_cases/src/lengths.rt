@@ -11,14 +11,8 @@ fn at_length(rt: &impl Print, n: usize) -> io::Result<()> {
 }
 
 pub fn lengths(rt: &impl Print) -> io::Result<()> {
-    at_length(rt, 0)?;
-    at_length(rt, 3)?;
-    at_length(rt, 4)?;
-    at_length(rt, 7)?;
-    at_length(rt, 8)?;
-    at_length(rt, 11)?;
-    at_length(rt, 12)?;
-    at_length(rt, 15)?;
-    at_length(rt, 16)?;
-    at_length(rt, 19)
+    for n in [0, 3, 4, 7, 8, 11, 12, 15, 16, 19] {
+        at_length(rt, n)?;
+    }
+    Ok(())
 }

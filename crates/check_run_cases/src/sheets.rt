@@ -1,6 +1,6 @@
 // Sheets as bytes: rows one after the other, and the trailer.
 
-// The sheet is bytes[from..end].
+// The sheet is bytes[from..end]. An array and no `Vec`, so that making a sheet cannot run out of memory.
 #[derive(Clone, Copy)]
 pub struct Sheet {
     pub bytes: [u8; 512],
@@ -29,7 +29,8 @@ impl Sheet {
 
     // A 16-bit number more, low byte first.
     pub fn word(self, n: u16) -> Sheet {
-        self.byte((n % 256) as u8).byte((n / 256) as u8)
+        let [low, high] = n.to_le_bytes();
+        self.byte(low).byte(high)
     }
 
     // A need (need1, need0) or a clause (pos, neg) more.
@@ -70,8 +71,7 @@ impl Sheet {
     // The sheet with another number at an offset.
     pub fn put(mut self, at: usize, n: u16) -> Sheet {
         if at < 511 {
-            self.bytes[at] = (n % 256) as u8;
-            self.bytes[at + 1] = (n / 256) as u8;
+            self.bytes[at..at + 2].copy_from_slice(&n.to_le_bytes());
         }
         self
     }
