@@ -1,19 +1,13 @@
 // The lines of the input: they tell what is lent, or are cases.
-ghost use Rattle.std.specs.Prelude.{◌≤◌, length};
-
 use crate::given::{COMPILE, Given, PLAN, PRINT};
 use crate::lines::{line, line_schedule};
 use crate::tables::{fresh, line_rows};
 use std::io;
-use text::{find, find_digit, number};
+use text::{find, value};
 
 // The first n bytes, lent.
 fn lent(bytes: &[u8; 512], n: usize) -> &[u8] {
-    let all = &bytes[..];
-    if n <= all.len() {
-        return &all[0..n];
-    }
-    all
+    &bytes[..n.min(512)]
 }
 
 // Compile of what is given, into a row buffer and an answer slice.
@@ -24,17 +18,10 @@ fn compile_into(g: Given, rows: &mut [u8], answer: &mut [u8]) -> u32 {
     bringup::bringup_compile(lent(&s, sheet.end), call[0], call[1], rows, answer)
 }
 
-// The number, or the most that it may be.
-fn at_most(n: usize, most: usize) -> usize
-    ensures { result ≤ most }
-{
-    if n < most { n } else { most }
-}
-
 // A case of compile with the row buffer that is lent: a line of the answer, and one of the rows.
 fn compile_rows(rt: &impl Print, g: Given, label: &[u8], rows: &mut [u8]) -> io::Result<()> {
     let mut answer = [0xEEu8; 24];
-    let n = at_most(g.into, 24);
+    let n = g.into.min(24);
     let code = compile_into(g, rows, &mut answer[0..n]);
     line(rt, label, n, code, &answer)?;
     line_rows(rt, rows)
@@ -44,7 +31,7 @@ fn compile_rows(rt: &impl Print, g: Given, label: &[u8], rows: &mut [u8]) -> io:
 fn try_compile<R: Print + AllocGlobal>(rt: &R, g: Given, label: &[u8]) -> io::Result<()> {
     let mut all = fresh(rt.alloc())?;
     let call = g.call;
-    let n = at_most(call[2] as usize, 1048608);
+    let n = (call[2] as usize).min(1048608);
     compile_rows(rt, g, label, &mut all[..n])
 }
 
@@ -60,9 +47,9 @@ fn plan_into(g: Given, rows: &mut [u8], schedule: &mut [u8], answer: &mut [u8]) 
 fn plan_rows(rt: &impl Print, g: Given, label: &[u8], rows: &mut [u8]) -> io::Result<()> {
     let mut answer = [0xEEu8; 24];
     let mut schedule = [0xEEu8; 12];
-    let n = at_most(g.into, 24);
+    let n = g.into.min(24);
     let call = g.call;
-    let m = at_most(call[2] as usize, 12);
+    let m = (call[2] as usize).min(12);
     let code = plan_into(g, rows, &mut schedule[0..m], &mut answer[0..n]);
     line(rt, label, n, code, &answer)?;
     line_schedule(rt, &schedule)?;
@@ -73,7 +60,7 @@ fn plan_rows(rt: &impl Print, g: Given, label: &[u8], rows: &mut [u8]) -> io::Re
 fn try_plan<R: Print + AllocGlobal>(rt: &R, g: Given, label: &[u8]) -> io::Result<()> {
     let mut all = fresh(rt.alloc())?;
     let call = g.call;
-    let n = at_most(call[1] as usize, 1048608);
+    let n = (call[1] as usize).min(1048608);
     plan_rows(rt, g, label, &mut all[..n])
 }
 
@@ -83,8 +70,8 @@ fn try_print(rt: &impl Print, g: Given, label: &[u8]) -> io::Result<()> {
     let call = g.call;
     let sheet = g.sheet;
     let bytes = sheet.all;
-    let front = at_most(call[0] as usize, 4609);
-    let n = at_most(sheet.end, 512);
+    let front = (call[0] as usize).min(4609);
+    let n = sheet.end.min(512);
     input[front..front + n].copy_from_slice(&bytes[..n]);
     let mut out = [0u8; 128];
     let end = program::print(&input[..front + n], &mut out);
@@ -93,16 +80,13 @@ fn try_print(rt: &impl Print, g: Given, label: &[u8]) -> io::Result<()> {
     rt.write_all(&out[0..end])
 }
 
-// The numbers of a line from a place on.
-fn take(g: Given, kind: u8, text: &[u8], from: usize) -> Given
-    requires { from ≤ length text.now }
-{
+// The numbers of a line of this kind.
+fn take(g: Given, kind: u8, text: &[u8]) -> Given {
     let mut given = g.begin(kind);
-    let mut at = find_digit(text, from);
-    while at < text.len() {
-        let n = number(text, at);
-        given = given.put(kind, n.value);
-        at = find_digit(text, n.end);
+    for digits in text.split(|b| !b.is_ascii_digit()) {
+        if !digits.is_empty() {
+            given = given.put(kind, value(digits));
+        }
     }
     given
 }
@@ -114,16 +98,13 @@ fn try_line<R: Print + AllocGlobal>(rt: &R, g: Given, text: &[u8]) -> io::Result
     }
     let kind = text[0];
     let colon = find(text, 2, b':');
-    let given = take(g, kind, text, colon);
+    let given = take(g, kind, &text[colon..]);
     let label = &text[2..colon];
-    if kind == COMPILE {
-        try_compile(rt, given, label)?;
-    }
-    if kind == PLAN {
-        try_plan(rt, given, label)?;
-    }
-    if kind == PRINT {
-        try_print(rt, given, label)?;
+    match kind {
+        COMPILE => try_compile(rt, given, label)?,
+        PLAN => try_plan(rt, given, label)?,
+        PRINT => try_print(rt, given, label)?,
+        _ => {}
     }
     Ok(given)
 }

@@ -11,12 +11,7 @@ pub const PLAN: u8 = b'>';
 
 pub const PRINT: u8 = b'=';
 
-// A line of this kind is a case.
-fn is_case(kind: u8) -> bool {
-    kind == COMPILE || kind == PLAN || kind == PRINT
-}
-
-// The bytes are all[..end].
+// The bytes are all[..end]. An array and no `Vec`, so that no number of a line can run out of memory.
 #[derive(Clone, Copy)]
 pub struct Sheet {
     pub all: [u8; 512],
@@ -68,11 +63,10 @@ impl Given {
 
     // A line of this kind begins.
     pub fn begin(mut self, kind: u8) -> Given {
-        if kind == SHEET {
-            self.sheet = Sheet::new();
-        }
-        if is_case(kind) {
-            self.told = 0;
+        match kind {
+            SHEET => self.sheet = Sheet::new(),
+            COMPILE | PLAN | PRINT => self.told = 0,
+            _ => {}
         }
         self
     }
@@ -90,14 +84,11 @@ impl Given {
     // A number of a line of this kind.
     pub fn put(mut self, kind: u8, n: u32) -> Given {
         let sheet = self.sheet;
-        if kind == SHEET {
-            self.sheet = sheet.word(n);
-        }
-        if kind == ANSWER {
-            self.into = n as usize;
-        }
-        if is_case(kind) {
-            return self.argument(n);
+        match kind {
+            SHEET => self.sheet = sheet.word(n),
+            ANSWER => self.into = n as usize,
+            COMPILE | PLAN | PRINT => return self.argument(n),
+            _ => {}
         }
         self
     }

@@ -1,18 +1,12 @@
 // The lines of the input: they tell what is lent, or are cases.
-ghost use Rattle.std.specs.Prelude.{◌≤◌, length};
-
 use crate::given::{CASE, Given};
 use crate::lines::{line, line_into};
 use std::io;
-use text::{find, find_digit, number};
+use text::{find, value};
 
 // The first n bytes, lent.
 fn lent(bytes: &[u8; 4096], n: usize) -> &[u8] {
-    let all = &bytes[..];
-    if n <= all.len() {
-        return &all[0..n];
-    }
-    all
+    &bytes[..n.min(4096)]
 }
 
 // Judge of what is given, into an answer slice.
@@ -49,16 +43,13 @@ fn try_case(rt: &impl Print, g: Given, label: &[u8]) -> io::Result<()> {
     }
 }
 
-// The numbers of a line from a place on.
-fn take(g: Given, kind: u8, text: &[u8], from: usize) -> Given
-    requires { from ≤ length text.now }
-{
+// The numbers of a line of this kind.
+fn take(g: Given, kind: u8, text: &[u8]) -> Given {
     let mut given = g.begin(kind);
-    let mut at = find_digit(text, from);
-    while at < text.len() {
-        let n = number(text, at);
-        given = given.put(kind, n.value);
-        at = find_digit(text, n.end);
+    for digits in text.split(|b| !b.is_ascii_digit()) {
+        if !digits.is_empty() {
+            given = given.put(kind, value(digits));
+        }
     }
     given
 }
@@ -70,7 +61,7 @@ fn try_line(rt: &impl Print, g: Given, text: &[u8]) -> io::Result<Given> {
     }
     let kind = text[0];
     let colon = find(text, 2, b':');
-    let given = take(g, kind, text, colon);
+    let given = take(g, kind, &text[colon..]);
     if kind == CASE {
         try_case(rt, given, &text[2..colon])?;
     }

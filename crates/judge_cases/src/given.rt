@@ -13,7 +13,7 @@ const ANSWER: u8 = b'a';
 
 pub const CASE: u8 = b' ';
 
-// The bytes are all[..end].
+// The bytes are all[..end]. An array and no `Vec`, so that no number of a line can run out of memory.
 #[derive(Clone, Copy)]
 pub struct Bytes {
     pub all: [u8; 4096],
@@ -88,18 +88,15 @@ impl Given {
     // A line of this kind begins.
     pub fn begin(mut self, kind: u8) -> Given {
         let none = Bytes::new();
-        if kind == SHEET {
-            self.sheet = none;
-        }
-        if kind == TABLE {
-            self.table = none;
-        }
-        if kind == ROWS {
-            self.table = none.constant(0).constant(1);
-        }
-        if kind == CASE {
-            self.told = 0;
-            self.masks = none;
+        match kind {
+            SHEET => self.sheet = none,
+            TABLE => self.table = none,
+            ROWS => self.table = none.constant(0).constant(1),
+            CASE => {
+                self.told = 0;
+                self.masks = none;
+            }
+            _ => {}
         }
         self
     }
@@ -121,20 +118,13 @@ impl Given {
     pub fn put(mut self, kind: u8, n: u32) -> Given {
         let sheet = self.sheet;
         let table = self.table;
-        if kind == SHEET {
-            self.sheet = sheet.word(n);
-        }
-        if (kind == TABLE) | (kind == ROWS) {
-            self.table = table.long(n);
-        }
-        if kind == LENGTH {
-            self.table = table.cut(n);
-        }
-        if kind == ANSWER {
-            self.into = n as usize;
-        }
-        if kind == CASE {
-            return self.argument(n);
+        match kind {
+            SHEET => self.sheet = sheet.word(n),
+            TABLE | ROWS => self.table = table.long(n),
+            LENGTH => self.table = table.cut(n),
+            ANSWER => self.into = n as usize,
+            CASE => return self.argument(n),
+            _ => {}
         }
         self
     }

@@ -6,7 +6,8 @@ ghost use Rattle.std.specs.Prelude.{◌<◌, ◌≤◌, length, IfOk};
 use std::io;
 use std::io::Read;
 
-// Reads until the buffer is full or the input ends, and gives how many bytes came.
+// Reads until the buffer is full or the input ends, and gives how many bytes came. A loop: std's `read_exact` fails where the input is
+// shorter, and its `read_to_end` fills a `Vec`, which may run out of memory.
 pub fn read_full(input: &mut impl Read, buf: &mut [u8]) -> io::Result<usize>
     ensures { IfOk result (λ n. n ≤ length buf.new) }
 {
@@ -21,13 +22,6 @@ pub fn read_full(input: &mut impl Read, buf: &mut [u8]) -> io::Result<usize>
     Ok(done)
 }
 
-// A number that was read, and the place behind it.
-#[derive(Clone, Copy)]
-pub struct Word {
-    pub value: u32,
-    pub end: usize,
-}
-
 // The first place of a byte from a place on, or the end.
 pub fn find(text: &[u8], from: usize, b: u8) -> usize
     requires { from ≤ length text.now }
@@ -39,17 +33,6 @@ pub fn find(text: &[u8], from: usize, b: u8) -> usize
         .map_or(text.len(), |i| from + i)
 }
 
-// The first digit from a place on, or the end.
-pub fn find_digit(text: &[u8], from: usize) -> usize
-    requires { from ≤ length text.now }
-    ensures { (from ≤ result) × (result ≤ length text.now) }
-{
-    text[from..]
-        .iter()
-        .position(|x| x.is_ascii_digit())
-        .map_or(text.len(), |i| from + i)
-}
-
 // A digit more, while the number is below 2^32.
 fn more(n: u64, digit: u8) -> u64 {
     if n < 4294967296 {
@@ -58,18 +41,8 @@ fn more(n: u64, digit: u8) -> u64 {
     n
 }
 
-// The decimal number at a digit's place.
-pub fn number(text: &[u8], from: usize) -> Word
-    requires { from < length text.now }
-    ensures { (from < result.end) × (result.end ≤ length text.now) }
-{
-    let end = text[from + 1..]
-        .iter()
-        .position(|x| !x.is_ascii_digit())
-        .map_or(text.len(), |i| from + 1 + i);
-    let n = text[from..end].iter().fold(0, |n, digit| more(n, *digit));
-    Word {
-        value: (n % 4294967296) as u32,
-        end,
-    }
+// The decimal number of some digits.
+pub fn value(digits: &[u8]) -> u32 {
+    let n = digits.iter().fold(0, |n, digit| more(n, *digit));
+    (n % 4294967296) as u32
 }
