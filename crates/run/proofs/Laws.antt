@@ -187,6 +187,12 @@ module _ (p : Sheet) (σ : List ℕ) (i s : ℕ) (w : Run) (left : run_from p i 
   run_failed NeedUnmet lt e = rw e at (one_more lt)
   run_failed Clashed lt e = rw e at (one_more lt)
 
+  pub run_unmet : i < length σ → step p (get_or σ i 0) s ≡ Err NeedUnmet → record { done = i; state = s; whole = false } ≡ w
+  run_unmet = run_failed NeedUnmet
+
+  pub run_clashed : i < length σ → step p (get_or σ i 0) s ≡ Err Clashed → record { done = i; state = s; whole = false } ≡ w
+  run_clashed = run_failed Clashed
+
   pub run_end : length σ ≤ i → record { done = i; state = s; whole = true } ≡ w
   unfolding run_from
   run_end le = rw (drop_of_length-le σ le) at left

@@ -2,12 +2,13 @@
 use mathlib.Core.Path.{◌≡◌, refl, sym, ap, ◌∙◌, subst}
 use mathlib.Core.Bool.{Bool, true, false, ◌&&◌}
 use mathlib.Core.List.{List, [], ◌∷◌, ◌++◌, map}
-use Prim.Native.Nat.{ℕ, zero, suc, ◌+◌, ◌-◌, ◌*◌, ◌≤◌}
+use Prim.Native.Nat.{ℕ, zero, suc, ◌+◌, ◌-◌, ◌*◌, ◌≤◌, ◌<◌}
 use native.Mathlib.Omega.{arith}
 use lib.Dec.{eqb, leb, ltb}
 use lib.ListN.{length, length-map, replicate, get_or, get_or-eq_default}
 use borrow.Author.Tests.{leb-true, eqb-true, ltb-true, ltb-false}
 use Rattle.paper.specs.declared.Trailer.{Trailer}
+use Rattle.paper.specs.declared.Fault.{Fault}
 use Rattle.paper.specs.declared.Fault.TheVariants.{Unmarked, Unbounded, Disagrees, BadRow}
 use Rattle.paper.specs.Lists.{filter, up_from}
 use Rattle.paper.specs.Sheet.{Sheet, trailer, trailer_length, body_at, body_length, marked, within, Bounded, agrees, need_at, rule_at, offsets, needs_at, rules_at, starts_at, goals_at, bad_rows, sheet_of, no_row, decode}
@@ -20,6 +21,8 @@ use Rattle.std.specs.Prelude.{Some, None, Ok, Err}
 use Rattle.std.specs.List.{find, range_with_len}
 use Rattle.std.specs.Option.{option_or}
 use Rattle.sheet.specs.declared.Part.{Part}
+use Rattle.sheet.specs.declared.Sheet as accepted
+use Rattle.sheet.specs.Contents.{contents, read_as}
 use Rattle.sheet.specs.Reading.{Whole, width, bad_row, first_bad, first_in, numbers, row_below, pair, fives, pairs_of, fives_of}
 
 -- bytes whose counts are within their bounds and agree with the file's length
@@ -88,6 +91,16 @@ rows_are b f d row n o c m is none = map_below _ _ m (λ j h. by (ltb j c)
     (λ e. rw e (none ∙ ap row (sym (past_rows f d o (2 * n) c j (ltb-false j c e))))))
 
 module _ (b : List ℕ) (t : Trailer) where
+  pub need_is : (a : ℕ) → a < t.actions → need_of (sheet_of b t) a ≡ need_at b (body_at b t + 4 * a)
+  unfolding need_of sheet_of needs_at
+  need_is a h = ap (λ xs. get_or xs a (record { need1 = 0; need0 = 0 })) (rows_of (need_at b) (body_at b t) 4 t.actions) ∙ value_at_lem (λ k. need_at b (body_at b t + 4 * k)) _ t.actions a h
+
+  pub rule_is : (j : ℕ) → j < t.rules → rule_of (sheet_of b t) j ≡ rule_at b (body_at b t + 4 * t.actions + 10 * j)
+  unfolding rule_of sheet_of rules_at
+  rule_is j h =
+      ap (λ xs. get_or xs j (record { action = 0; cond1 = 0; cond0 = 0; set1 = 0; set0 = 0 })) (rows_of (rule_at b) (body_at b t + 4 * t.actions) 10 t.rules)
+      ∙ value_at_lem (λ k. rule_at b (body_at b t + 4 * t.actions + 10 * k)) _ t.rules j h
+
   pub needs_are : map (row_below b (body_at b t) 2 t.actions) (up_from 0 12) ≡ pairs_of (sheet_of b t)
   unfolding pairs_of need_of sheet_of needs_at
   needs_are = rows_are b (need_at b) (record { need1 = 0; need0 = 0 }) pair 2 (body_at b t) t.actions 12 (words_2 b) refl
@@ -139,6 +152,17 @@ module _ (b : List ℕ) where
       let g = and_e (leb trailer_length (length b) && eqb (get_or b (length b - 2) 0) 0x52) (eqb (get_or b (length b - 1) 0) 0x53) m in
       let h = and_e (leb trailer_length (length b)) (eqb (get_or b (length b - 2) 0) 0x52) g.0 in
       leb-true 16 (length b) h.0
+
+-- ---- what read's answer says of decode
+pub record Taken (b : List ℕ) (s : accepted.Sheet) : Type 0 where
+  pub sheet : decode b ≡ Ok (contents s)
+  pub holds : Whole s.parts.bytes.now s.parts.trailer
+
+pub taken : (b : List ℕ) (s : accepted.Sheet) → read_as (Ok s) ≡ decode b → Taken b s
+taken b s e = record { sheet = sym e; holds = s.parts.whole }
+
+pub not_taken : (b : List ℕ) (f : Fault) → read_as (Err f) ≡ decode b → decode b ≡ Err f
+not_taken b f e = sym e
 
 -- what the code's proofs use
 pub ruleset reading = (within_bounded, marked_long, whole_read, read_unmarked, read_unbounded, read_disagrees, read_bad, read_good)
