@@ -115,6 +115,7 @@ fn horizons(sheet: Sheet, limit: u32, table: &mut [u8], schedule: &mut [u8]) -> 
             return finish(n, tried, schedule);
         }
     }
+    // The last horizon stands behind the loop: it always answers, where a loop over it too would have an end without an answer.
     let tried = try_horizon(sheet, last, limit, table, &starts, &mut values);
     finish(last, tried, schedule)
 }
