@@ -9,7 +9,6 @@ use lib.ListN.{length, get_or, take, drop}
 use lib.Seq.{take_at}
 use Rattle.std.specs.Prelude.{Result, Ok, Err}
 use Rattle.paper.specs.declared.Fault.{Fault}
-use Rattle.paper.specs.declared.Whole.{Whole}
 use Rattle.paper.specs.declared.Planned.{Planned}
 use Rattle.paper.specs.Lists.{elem}
 use Rattle.paper.specs.Counting.{worth, count_below}
