@@ -13,14 +13,15 @@ use prefixes::{Circuit, Prefix};
 use sheet::Sheet;
 use variables::Numbering;
 
-// A horizon that was tried: what compile answered, and what the search found in a whole circuit.
+// A horizon that was tried: what compile answered, and what the search found in a whole circuit: eight entries, as nothing is allocated, of which as
+// many count as the horizon has steps.
 #[derive(Clone, Copy)]
 pub struct Tried {
     pub built: Built,
     pub found: Option<[u8; 8]>,
 }
 
-// Compile at horizon n, and where the circuit is whole look for the first plan.
+// Compile at horizon n, and where the circuit is whole look for the first plan. A horizon is a number, as the definitions count it, so its bound is a clause.
 fn try_horizon(
     sheet: Sheet,
     n: usize,
@@ -101,7 +102,7 @@ fn finish(n: usize, tried: Tried, out: &mut [u8]) -> Planned
     }
 }
 
-// Horizons 0, 1, .. up to the sheet's.
+// Horizons 0, 1, .. up to the sheet's. Limit, table and schedule go down to here one by one, as the call lends them.
 fn horizons(sheet: Sheet, limit: u32, table: &mut [u8], schedule: &mut [u8]) -> Planned
     requires { sheet.parts.trailer.horizon ≤ length schedule.old }
     ensures { spec.Plans table.old schedule.old (Ok (operation.plan_from (contents sheet.entry) limit (operation.room table.old) sheet.entry.parts.trailer.horizon 0)) (Ok result) table.new schedule.new }

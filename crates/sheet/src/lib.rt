@@ -105,7 +105,7 @@ fn agrees(b: &[u8], t: Trailer) -> bool
     (t.back == body) & (b.len() == body + 16)
 }
 
-// No bit of the mask is at f or above.
+// No bit of the mask is at f or above. The bound of f is a clause here and below: f may be a count of facts or of actions.
 pub fn fits(f: usize, m: u32) -> bool
     requires { f ≤ 12 }
     ensures { result ≡ paper.fits f m }
@@ -208,7 +208,7 @@ impl<'a> Parts<'a> {
         self.starts_at() + 4 * self.trailer.starts
     }
 
-    // 4 applies to the row at an offset.
+    // 4 applies to the row at an offset. Its kind is a value and no closure, as the definitions go by it.
     fn bad_row(self, part: Part, at: usize) -> bool
         requires { at + spec.width part ≤ length self.bytes.now }
         ensures { result ≡ spec.bad_row self.entry.bytes.now self.entry.trailer part at }

@@ -38,7 +38,7 @@ struct Masks {
     nil: u16,
 }
 
-// What the clause maker works on: the two arrays that are lent to it, how much of them is filled, the sheet, the
+// What the clause maker works on: the two arrays that are lent to it, with how much of them is filled, which `theory` hands back; the sheet, the
 // numbers of its variables, and its needs and rules decoded.
 #[derive(Drop)]
 struct Builder<'a, 'b> {
@@ -102,11 +102,12 @@ fn excludes(a: usize, b: usize) -> bool
     a < b
 }
 
+// Bounds of moments and steps are clauses, since the definitions build both types (`before`, `after`); so are those of facts, actions and rules.
 impl Builder<'_, '_> {
     ghost use Rattle.paper.specs.Step.{need_of, rule_of};
     ghost use Rattle.theory.specs.Building.{as_lit, as_masks, Pushes, Ends, Adds};
 
-    // The literal of fact k at a moment.
+    // The literal of fact k at a moment. Facts, actions and z have a function each, as the definitions have: one would go by a kind.
     #[tactic(auto, using(crate::proofs::Building::counts_of))]
     fn fact(&self, moment: Moment, k: usize, sign: bool) -> Literal
         requires { (moment.0 ≤ 8) × (k < 12) }
@@ -226,7 +227,7 @@ impl Builder<'_, '_> {
         self.end();
     }
 
-    // A clause of a literal and x, which stands ahead or behind, where it is wanted.
+    // A clause of a literal and x, which stands ahead or behind, as `besides` has it, where it is wanted.
     fn pair_if(&mut self, wanted: bool, l: Literal, x: Literal, ahead: bool)
         ensures { Adds (λ p n. only wanted (spec.beside ahead (as_lit x) (as_lit l))) self.old self.new }
     {
@@ -291,7 +292,7 @@ impl Builder<'_, '_> {
         self.pair_facts(x, false, step.before(), need);
     }
 
-    // What every action needs.
+    // What every action needs. The loops of a step have one shape: over a closure each would bring its contract along, which is no shorter.
     fn needs_of_step(&mut self, step: Step)
         requires { step.0 < 8 }
         ensures { Adds (λ p n. clauses.need_clauses p n step) self.old self.new }
