@@ -1,7 +1,9 @@
 // What the programs read: standard input into a lent buffer, and in the text of cases lines and the numbers in them.
 #![tactic(auto)]
 
-ghost use Rattle.std.specs.Prelude.{◌<◌, ◌≤◌, length, IfOk};
+ghost use Rattle.std.specs.Prelude.{◌≡◌, [], ◌∷◌, ◌++◌, ◌<◌, ◌≤◌, ◌/◌, ◌%◌, length, take, IfOk};
+ghost use Rattle.text.specs.Numbers as spec;
+ghost use Rattle.text.specs.Lent.{added, two};
 
 use std::io;
 use std::io::Read;
@@ -34,7 +36,9 @@ pub fn find(text: &[u8], from: usize, b: u8) -> usize
 }
 
 // A digit more, while the number is below 2^32.
-fn more(n: u64, digit: u8) -> u64 {
+fn more(n: u64, digit: u8) -> u64
+    ensures { result ≡ spec.more n digit }
+{
     if n < 4294967296 {
         return 10 * n + (digit % 16) as u64;
     }
@@ -42,7 +46,70 @@ fn more(n: u64, digit: u8) -> u64 {
 }
 
 // The decimal number of some digits.
-pub fn value(digits: &[u8]) -> u32 {
+pub fn value(digits: &[u8]) -> u32
+    ensures { result ≡ spec.number digits.now }
+{
     let n = digits.iter().fold(0, |n, digit| more(n, *digit));
     (n % 4294967296) as u32
+}
+
+// The bytes are all[..end]. An array and no `Vec`, so that no number of a line can run out of memory.
+#[derive(Clone, Copy)]
+pub struct Bytes<const N: usize> {
+    all: [u8; N],
+    end: usize,
+    ghost inside: { end ≤ N },
+}
+
+impl<const N: usize> Bytes<N> {
+    pub fn new() -> Bytes<N>
+        ensures { take result.end result.all ≡ [] }
+    {
+        Bytes {
+            all: [0u8; N],
+            end: 0,
+        }
+    }
+
+    // A number's low byte more, where there is room.
+    pub fn byte(mut self, n: u32) -> Bytes<N>
+        ensures { take result.end result.all ≡ added N (take self.entry.end self.entry.all) (n % 256 ∷ []) }
+    {
+        let at = self.end;
+        if at < N {
+            self.all[at] = (n % 256) as u8;
+            self.end = at + 1;
+        }
+        self
+    }
+
+    // A 16-bit number more, low byte first.
+    pub fn word(self, n: u32) -> Bytes<N>
+        ensures { take result.end result.all ≡ added N (take self.entry.end self.entry.all) (two n) }
+    {
+        self.byte(n).byte(n / 256)
+    }
+
+    // A 32-bit number more, low byte first.
+    pub fn long(self, n: u32) -> Bytes<N>
+        ensures { take result.end result.all ≡ added N (take self.entry.end self.entry.all) (two n ++ two (n / 65536)) }
+    {
+        self.word(n).word(n / 65536)
+    }
+
+    // The first n of the bytes, or bytes 0 behind them too.
+    pub fn cut(mut self, n: usize) -> Bytes<N>
+        ensures { take result.end result.all ≡ take n self.entry.all }
+    {
+        self.end = n.min(N);
+        self
+    }
+
+    // The bytes, lent.
+    pub fn lent(&self) -> &[u8]
+        ensures bytes { result.now ≡ take self.now.end self.now.all }
+        ensures short { length result.now ≤ N }
+    {
+        &self.all[..self.end]
+    }
 }
