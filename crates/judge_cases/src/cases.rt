@@ -1,31 +1,20 @@
 // The lines of the input: they tell what is lent, or are cases.
-use crate::given::{CASE, Given};
+use crate::given::{Given, Kind};
 use crate::lines::{line, line_into};
 use std::io;
 use text::{find, value};
 
-// The first n bytes, lent.
-fn lent(bytes: &[u8; 4096], n: usize) -> &[u8] {
-    &bytes[..n.min(4096)]
-}
-
 // Judge of what is given, into an answer slice.
 fn judge_into(g: Given, answer: &mut [u8]) -> u32 {
-    let sheet = g.sheet;
-    let table = g.table;
-    let masks = g.masks;
-    let call = g.call;
-    let s = sheet.all;
-    let t = table.all;
-    let m = masks.all;
+    let [horizon, count, root, state] = g.call;
     bringup::bringup_judge(
-        lent(&s, sheet.end),
-        call[0],
-        lent(&t, table.end),
-        call[1],
-        call[2],
-        call[3],
-        lent(&m, masks.end),
+        g.sheet.lent(),
+        horizon,
+        g.table.lent(),
+        count,
+        root,
+        state,
+        g.masks.lent(),
         answer,
     )
 }
@@ -43,15 +32,14 @@ fn try_case(rt: &impl Print, g: Given, label: &[u8]) -> io::Result<()> {
     }
 }
 
-// The numbers of a line of this kind.
-fn take(g: Given, kind: u8, text: &[u8]) -> Given {
-    let mut given = g.begin(kind);
-    for digits in text.split(|b| !b.is_ascii_digit()) {
-        if !digits.is_empty() {
-            given = given.put(kind, value(digits));
-        }
-    }
-    given
+// The numbers of a line of this kind. Each program of cases has these lines for its own `Given`: a function of `text` over both would owe
+// a contract, and std's `split` does not say which its parts are.
+fn take(g: Given, kind: Kind, text: &[u8]) -> Given {
+    text.split(|b| !b.is_ascii_digit())
+        .filter(|digits| !digits.is_empty())
+        .fold(g.begin(kind), |given, digits| {
+            given.put(kind, value(digits))
+        })
 }
 
 // A line: its first byte is its kind; its numbers stand behind a colon, in front of which a case has its label.
@@ -59,16 +47,18 @@ fn try_line(rt: &impl Print, g: Given, text: &[u8]) -> io::Result<Given> {
     if text.len() < 2 {
         return Ok(g);
     }
-    let kind = text[0];
+    let Some(kind) = Kind::of(text[0]) else {
+        return Ok(g);
+    };
     let colon = find(text, 2, b':');
     let given = take(g, kind, &text[colon..]);
-    if kind == CASE {
+    if matches!(kind, Kind::Case) {
         try_case(rt, given, &text[2..colon])?;
     }
     Ok(given)
 }
 
-// Each line of the input.
+// Each line of the input, in each program of cases by its own `try_line`: lent as a closure it would leave no shorter a loop.
 pub fn try_all(rt: &impl Print, text: &[u8]) -> io::Result<()> {
     let mut given = Given::new();
     for line in text.split(|b| *b == b'\n') {

@@ -1,74 +1,47 @@
 // What is lent to judge, as the lines of the input tell it.
 
-// The kinds of lines, by their first byte.
-const SHEET: u8 = b's';
+use text::Bytes;
 
-const TABLE: u8 = b't';
-
-const ROWS: u8 = b'r';
-
-const LENGTH: u8 = b'l';
-
-const ANSWER: u8 = b'a';
-
-pub const CASE: u8 = b' ';
-
-// The bytes are all[..end]. An array and no `Vec`, so that no number of a line can run out of memory.
+// The kinds of lines.
 #[derive(Clone, Copy)]
-pub struct Bytes {
-    pub all: [u8; 4096],
-    pub end: usize,
+pub enum Kind {
+    Sheet,
+    Table,
+    Rows,
+    Length,
+    Answer,
+    Case,
 }
 
-impl Bytes {
-    pub fn new() -> Bytes {
-        Bytes {
-            all: [0u8; 4096],
-            end: 0,
+impl Kind {
+    // By a line's first byte; a line of no kind tells nothing.
+    pub fn of(first: u8) -> Option<Kind> {
+        match first {
+            b's' => Some(Kind::Sheet),
+            b't' => Some(Kind::Table),
+            b'r' => Some(Kind::Rows),
+            b'l' => Some(Kind::Length),
+            b'a' => Some(Kind::Answer),
+            b' ' => Some(Kind::Case),
+            _ => None,
         }
     }
+}
 
-    // A number's low byte more, where there is room.
-    pub fn byte(mut self, n: u32) -> Bytes {
-        let at = self.end;
-        if at < 4096 {
-            self.all[at] = (n % 256) as u8;
-            self.end = at + 1;
-        }
-        self
-    }
-
-    // A 16-bit number more, low byte first.
-    pub fn word(self, n: u32) -> Bytes {
-        self.byte(n).byte(n / 256)
-    }
-
-    // A 32-bit number more, low byte first.
-    pub fn long(self, n: u32) -> Bytes {
-        self.word(n).word(n / 65536)
-    }
-
-    // A row more that is False or True.
-    pub fn constant(self, kind: u32) -> Bytes {
-        self.long(kind).long(0).long(0).long(0)
-    }
-
-    // The first n of the bytes, or bytes 0 behind them too.
-    pub fn cut(mut self, n: u32) -> Bytes {
-        self.end = n as usize;
-        self
-    }
+// A row more that is False or True.
+fn constant(table: Bytes<4096>, kind: u32) -> Bytes<4096> {
+    table.long(kind).long(0).long(0).long(0)
 }
 
 // The sheet, the table, the call (horizon, count, root, state) and how many of its numbers are told, the masks, and the
 // length of the answer slice, which is above 12 until a line tells it.
 #[derive(Clone, Copy)]
 pub struct Given {
-    pub sheet: Bytes,
-    pub table: Bytes,
+    pub sheet: Bytes<4096>,
+    pub table: Bytes<4096>,
     pub call: [u32; 4],
     pub told: usize,
-    pub masks: Bytes,
+    pub masks: Bytes<4096>,
     pub into: usize,
 }
 
@@ -86,17 +59,17 @@ impl Given {
     }
 
     // A line of this kind begins.
-    pub fn begin(mut self, kind: u8) -> Given {
+    pub fn begin(mut self, kind: Kind) -> Given {
         let none = Bytes::new();
         match kind {
-            SHEET => self.sheet = none,
-            TABLE => self.table = none,
-            ROWS => self.table = none.constant(0).constant(1),
-            CASE => {
+            Kind::Sheet => self.sheet = none,
+            Kind::Table => self.table = none,
+            Kind::Rows => self.table = constant(constant(none, 0), 1),
+            Kind::Case => {
                 self.told = 0;
                 self.masks = none;
             }
-            _ => {}
+            Kind::Length | Kind::Answer => {}
         }
         self
     }
@@ -109,22 +82,18 @@ impl Given {
             self.told = at + 1;
             return self;
         }
-        let masks = self.masks;
-        self.masks = masks.byte(n);
+        self.masks = self.masks.byte(n);
         self
     }
 
     // A number of a line of this kind.
-    pub fn put(mut self, kind: u8, n: u32) -> Given {
-        let sheet = self.sheet;
-        let table = self.table;
+    pub fn put(mut self, kind: Kind, n: u32) -> Given {
         match kind {
-            SHEET => self.sheet = sheet.word(n),
-            TABLE | ROWS => self.table = table.long(n),
-            LENGTH => self.table = table.cut(n),
-            ANSWER => self.into = n as usize,
-            CASE => return self.argument(n),
-            _ => {}
+            Kind::Sheet => self.sheet = self.sheet.word(n),
+            Kind::Table | Kind::Rows => self.table = self.table.long(n),
+            Kind::Length => self.table = self.table.cut(n as usize),
+            Kind::Answer => self.into = n as usize,
+            Kind::Case => return self.argument(n),
         }
         self
     }
