@@ -1,51 +1,35 @@
 // What is lent to compile, to plan and to the program, as the lines of the input tell it.
 
-// The kinds of lines, by their first byte.
-const SHEET: u8 = b's';
+use text::Bytes;
 
-const ANSWER: u8 = b'a';
-
-pub const COMPILE: u8 = b' ';
-
-pub const PLAN: u8 = b'>';
-
-pub const PRINT: u8 = b'=';
-
-// The bytes are all[..end]. An array and no `Vec`, so that no number of a line can run out of memory.
+// The kinds of lines.
 #[derive(Clone, Copy)]
-pub struct Sheet {
-    pub all: [u8; 512],
-    pub end: usize,
+pub enum Kind {
+    Sheet,
+    Answer,
+    Compile,
+    Plan,
+    Print,
 }
 
-impl Sheet {
-    fn new() -> Sheet {
-        Sheet {
-            all: [0u8; 512],
-            end: 0,
+impl Kind {
+    // By a line's first byte; a line of no kind tells nothing.
+    pub fn of(first: u8) -> Option<Kind> {
+        match first {
+            b's' => Some(Kind::Sheet),
+            b'a' => Some(Kind::Answer),
+            b' ' => Some(Kind::Compile),
+            b'>' => Some(Kind::Plan),
+            b'=' => Some(Kind::Print),
+            _ => None,
         }
-    }
-
-    // A number's low byte more, where there is room.
-    fn byte(mut self, n: u32) -> Sheet {
-        let at = self.end;
-        if at < 512 {
-            self.all[at] = (n % 256) as u8;
-            self.end = at + 1;
-        }
-        self
-    }
-
-    // A 16-bit number more, low byte first.
-    pub fn word(self, n: u32) -> Sheet {
-        self.byte(n).byte(n / 256)
     }
 }
 
 // The sheet, the call's numbers and how many of them are told, and the length of the answer slice, which is 20 until a line tells it.
 #[derive(Clone, Copy)]
 pub struct Given {
-    pub sheet: Sheet,
+    pub sheet: Bytes<512>,
     pub call: [u32; 3],
     pub told: usize,
     pub into: usize,
@@ -54,7 +38,7 @@ pub struct Given {
 impl Given {
     pub fn new() -> Given {
         Given {
-            sheet: Sheet::new(),
+            sheet: Bytes::new(),
             call: [0; 3],
             told: 0,
             into: 20,
@@ -62,11 +46,11 @@ impl Given {
     }
 
     // A line of this kind begins.
-    pub fn begin(mut self, kind: u8) -> Given {
+    pub fn begin(mut self, kind: Kind) -> Given {
         match kind {
-            SHEET => self.sheet = Sheet::new(),
-            COMPILE | PLAN | PRINT => self.told = 0,
-            _ => {}
+            Kind::Sheet => self.sheet = Bytes::new(),
+            Kind::Answer => {}
+            Kind::Compile | Kind::Plan | Kind::Print => self.told = 0,
         }
         self
     }
@@ -82,13 +66,11 @@ impl Given {
     }
 
     // A number of a line of this kind.
-    pub fn put(mut self, kind: u8, n: u32) -> Given {
-        let sheet = self.sheet;
+    pub fn put(mut self, kind: Kind, n: u32) -> Given {
         match kind {
-            SHEET => self.sheet = sheet.word(n),
-            ANSWER => self.into = n as usize,
-            COMPILE | PLAN | PRINT => return self.argument(n),
-            _ => {}
+            Kind::Sheet => self.sheet = self.sheet.word(n),
+            Kind::Answer => self.into = n as usize,
+            Kind::Compile | Kind::Plan | Kind::Print => return self.argument(n),
         }
         self
     }
