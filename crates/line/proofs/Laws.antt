@@ -1,14 +1,15 @@
 -- What is written into a lent slice, piece by piece; and how long a number's digits are. Assumes nothing.
 use mathlib.Core.Path.{◌≡◌, refl, sym, ap, ◌∙◌, subst}
 use mathlib.Core.List.{List, [], ◌∷◌, ◌++◌, append_assoc}
-use Prim.Native.Nat.{ℕ, zero, suc, ◌+◌, ◌-◌, ◌*◌, ◌/◌, ◌%◌, ◌^◌, ◌≤◌, ◌<◌}
-use native.Mathlib.Nat.{pow-suc, div-lt_iff_lt-mul, mod-eq_of_lt}
+use Prim.Native.Nat.{ℕ, zero, suc, ◌+◌, ◌*◌, ◌/◌, ◌%◌, ◌^◌, ◌≤◌, ◌<◌}
 use native.Mathlib.Numerals.{add-one}
 use native.Mathlib.Omega.{arith}
 use borrow.Author.Tests.{lt-ltb, le-ltb}
 use lib.Dec.{ltb}
-use lib.ListN.{length, get_or, set, take, drop, length-append, length-drop}
-use lib.Seq.{length-take-le, take-length, take-suc, take_at, drop_at, drop-drop, sets-eq, paste-zero}
+use lib.ListN.{length, get_or, take, drop, length-append, length-drop}
+use lib.Seq.{length-take-le, take-length, take-suc, take_at, drop_at, drop-drop, paste-zero}
+use Rattle.std.specs.Fmt.{decimal as std_decimal}
+use Rattle.std.proofs.lemmas.Fmt.{AppendsLastDigit, decimal_from_appends, length-decimal-le}
 use Rattle.paper.specs.Lists.{each}
 use Rattle.paper.specs.Program.{decimal_in, decimal, spaced, line}
 use Rattle.paper.proofs.Basic.{by}
@@ -18,9 +19,6 @@ use Rattle.line.specs.Written.{Writes}
 -- ---- what is written
 pub writes_nothing : (at : ℕ) (T : List ℕ) → Writes at [] T T at
 writes_nothing at T = record { bytes_are = paste-zero T at []; end_is = omega arith }
-
-pub writes_one : (at b : ℕ) (T : List ℕ) → at < length T → Writes at (b ∷ []) T (set T at b) (at + 1)
-writes_one at b T h = record { bytes_are = sets-eq (b ∷ []) T at (omega arith); end_is = refl }
 
 -- in a slice that reaches to the place, what stands behind the bytes is what stood there
 module _ {at m : ℕ} {xs T U : List ℕ} (w : Writes at xs T U m) (h : at ≤ length T) where
@@ -60,15 +58,20 @@ pub writes_as : {at : ℕ} {xs ys T U : List ℕ} {r : ℕ} → xs ≡ ys → Wr
 writes_as {at} {xs} {ys} {T} {U} {r} e w = subst (λ l. Writes at l T U r) e w
 
 -- ---- digits
-pub decimal_last : (k n : ℕ) → 1 ≤ k → n < 10 → decimal_in k n ≡ (48 + n % 10) ∷ []
+decimal_appends : AppendsLastDigit decimal_in
 unfolding decimal_in
-decimal_last zero n h l = absurd (omega arith)
-decimal_last (suc k) n h l = rw (lt-ltb n 10 l) (ap (λ d. (48 + d) ∷ []) (sym (mod-eq_of_lt l)))
+decimal_appends = record {
+  one = λ k n l. rw (lt-ltb n 10 l) refl;
+  more = λ k n l. rw (le-ltb n 10 l) refl;
+}
 
-pub decimal_more : (k n : ℕ) → 1 ≤ k → 10 ≤ n → decimal_in k n ≡ decimal_in (k - 1) (n / 10) ++ ((48 + n % 10) ∷ [])
-unfolding decimal_in
-decimal_more zero n h l = absurd (omega arith)
-decimal_more (suc k) n h l = let e : k ≡ suc k - 1 = omega arith in rw (le-ltb n 10 l) (ap (λ j. decimal_in j (n / 10) ++ ((48 + n % 10) ∷ [])) e)
+-- a 32-bit number of at most k digits is what std writes
+pub decimal_is : (k n : ℕ) → 1 ≤ k → n < 10 ^ k → n < 2 ^ 32 → decimal_in k n ≡ std_decimal n
+decimal_is k n h l m = decimal_from_appends decimal_in decimal_appends k n (omega arith) (length-decimal-le k n h l (omega arith))
+
+-- in ten places it is written as in fewer
+pub decimal_same : (k n : ℕ) → 1 ≤ k → n < 10 ^ k → n < 2 ^ 32 → decimal n ≡ decimal_in k n
+decimal_same k n h l m = decimal_is 10 n (omega arith) (omega arith) m ∙ sym (decimal_is k n h l m)
 
 pub decimal_length : (k n : ℕ) → length (decimal_in k n) ≤ k
 unfolding decimal_in
@@ -82,52 +85,6 @@ decimal_fits k n w = let l = decimal_length k n in let e = w.end_is in omega ari
 
 pub spaced_fits : (n : ℕ) {at m : ℕ} {T U : List ℕ} → Writes at (spaced n) T U m → m ≤ at + 11
 spaced_fits n w = let l = decimal_length 10 n in let e = w.end_is in omega arith
-
--- a number of k digits has a tenth part of one fewer
-pub tenth_fits : (k n : ℕ) → n < 10 ^ k → 10 ≤ n → (2 ≤ k) × (n / 10 < 10 ^ (k - 1))
-tenth_fits zero n h l = absurd (omega arith)
-tenth_fits (suc zero) n h l = absurd (omega arith)
-tenth_fits (suc (suc k)) n h l =
-    let p = pow-suc 10 (suc k) in
-    let e : suc (suc k) - 1 ≡ suc k = omega arith in
-    (omega arith, rw e ((div-lt_iff_lt-mul {k = 10} (omega arith)).1 (subst (λ x. n < x) p h)))
-
--- what stands in front of the last digit
-pub record Front (at k n : ℕ) (T U : List ℕ) (end : ℕ) : Type 0 where
-  pub front : List ℕ
-  pub written : Writes at front T U end
-  pub whole : front ++ ((48 + n % 10) ∷ []) ≡ decimal_in k n
-
-pub front_none : {at k n end : ℕ} {T U : List ℕ} → 1 ≤ k → n < 10 → U ≡ T → end ≡ at → Front at k n T U end
-front_none {at} {k} {n} {end} {T} {U} h l u e = record {
-  front = [];
-  written = subst (λ x. Writes at [] T x end) (sym u) (subst (λ x. Writes at [] T T x) (sym e) (writes_nothing at T));
-  whole = sym (decimal_last k n h l);
-}
-
-pub front_tenth : {at k n end r : ℕ} {T U Z : List ℕ} → 1 ≤ k → 10 ≤ n → Writes at (decimal_in (k - 1) (n / 10)) T Z r → U ≡ Z → end ≡ r → Front at k n T U end
-front_tenth {at} {k} {n} {end} {r} {T} {U} {Z} h l w u e = record {
-  front = decimal_in (k - 1) (n / 10);
-  written = subst (λ x. Writes at (decimal_in (k - 1) (n / 10)) T x end) (sym u) (subst (λ x. Writes at (decimal_in (k - 1) (n / 10)) T Z x) (sym e) w);
-  whole = sym (decimal_more k n h l);
-}
-
-module _ {at k n end : ℕ} {T U : List ℕ} (f : Front at k n T U end) (h : at + k ≤ length T) where
-  front_short : length f.front + 1 ≤ k
-  front_short =
-      let a = length-append f.front ((48 + n % 10) ∷ []) in
-      let b = ap length f.whole in
-      let d = decimal_length k n in
-      omega arith
-
-  pub front_length : length U ≡ length T
-  front_length = let s = front_short in writes_length f.written (omega arith) (omega arith)
-
-  pub front_fits : end < length U
-  front_fits = let s = front_short in let l = front_length in let e = f.written.end_is in omega arith
-
-  pub front_done : {Z : List ℕ} {r : ℕ} → Writes end ((48 + n % 10) ∷ []) U Z r → Writes at (decimal_in k n) T Z r
-  front_done w = writes_as f.whole (writes_more f.written (omega arith) w)
 
 -- ---- entries
 entries_last : (s : List ℕ) (i : ℕ) → i < length s → each (take (suc i) s) spaced ≡ each (take i s) spaced ++ spaced (get_or s i 0)
