@@ -6,7 +6,7 @@ use native.Mathlib.Numerals.{add-one}
 use native.Mathlib.Omega.{arith}
 use borrow.Author.Tests.{lt-ltb, le-ltb}
 use lib.Dec.{ltb}
-use lib.ListN.{length, get_or, take, drop, length-append, length-drop}
+use lib.ListN.{length, get_or, take, drop, length-append}
 use lib.Seq.{length-take-le, take-length, take-suc, take_at, drop_at, drop-drop, paste-zero}
 use Rattle.std.specs.Fmt.{decimal as std_decimal}
 use Rattle.std.proofs.lemmas.Fmt.{AppendsLastDigit, decimal_from_appends, length-decimal-le}
@@ -14,7 +14,9 @@ use Rattle.paper.specs.Lists.{each}
 use Rattle.paper.specs.Program.{decimal_in, decimal, spaced, line}
 use Rattle.paper.proofs.Basic.{by}
 use Rattle.bits.proofs.Upward.{each_last}
+use Rattle.line.specs.declared.Writer.{Writer}
 use Rattle.line.specs.Written.{Writes}
+use Rattle.line.specs.Adds.{Adds}
 
 -- ---- what is written
 pub writes_nothing : (at : ℕ) (T : List ℕ) → Writes at [] T T at
@@ -41,21 +43,24 @@ module _ {at m : ℕ} {xs T U : List ℕ} (w : Writes at xs T U m) (h : at ≤ l
         end_is = v.end_is ∙ ap (λ k. k + length ys) w.end_is ∙ e;
       }
 
-  pub writes_length : at + length xs ≤ length T → length U ≡ length T
-  writes_length l =
-      ap length w.bytes_are ∙ length-append (take at T ++ xs) (drop (at + length xs) T)
-      ∙ (let a = head_length in let d = length-drop (at + length xs) T in let e = w.end_is in omega arith)
-
 -- at the front of a slice
 pub writes_front : {xs T U : List ℕ} {r : ℕ} → Writes 0 xs T U r → U ≡ xs ++ drop (length xs) T
 writes_front {xs} {T} w = let e : 0 + length xs ≡ length xs = omega arith in w.bytes_are ∙ ap (λ k. xs ++ drop k T) e
 
-pub writes_taken : {xs T U : List ℕ} {r : ℕ} → Writes 0 xs T U r → take r U ≡ xs
-writes_taken w = take_written w (omega arith)
-
 -- what was written, by another name
 pub writes_as : {at : ℕ} {xs ys T U : List ℕ} {r : ℕ} → xs ≡ ys → Writes at xs T U r → Writes at ys T U r
 writes_as {at} {xs} {ys} {T} {U} {r} e w = subst (λ l. Writes at l T U r) e w
+
+-- ---- what a writer adds
+pub adds_as : {xs ys : List ℕ} {L M : Writer} → xs ≡ ys → Adds xs L M → Adds ys L M
+adds_as {xs} {ys} {L} {M} e a = subst (λ l. Adds l L M) e a
+
+pub adds_more : {xs ys : List ℕ} {L M N : Writer} → L.at ≤ length L.out.now → Adds xs L M → Adds ys M N → Adds (xs ++ ys) L N
+adds_more h a b = record {
+  same = b.same ∙ a.same;
+  len = b.len ∙ a.len;
+  written = writes_more a.written h b.written;
+}
 
 -- ---- digits
 decimal_appends : AppendsLastDigit decimal_in
@@ -66,12 +71,15 @@ decimal_appends = record {
 }
 
 -- a 32-bit number of at most k digits is what std writes
-pub decimal_is : (k n : ℕ) → 1 ≤ k → n < 10 ^ k → n < 2 ^ 32 → decimal_in k n ≡ std_decimal n
+decimal_is : (k n : ℕ) → 1 ≤ k → n < 10 ^ k → n < 2 ^ 32 → decimal_in k n ≡ std_decimal n
 decimal_is k n h l m = decimal_from_appends decimal_in decimal_appends k n (omega arith) (length-decimal-le k n h l (omega arith))
+
+pub decimal_whole : (n : ℕ) → n < 2 ^ 32 → std_decimal n ≡ decimal n
+decimal_whole n m = sym (decimal_is 10 n (omega arith) (omega arith) m)
 
 -- in ten places it is written as in fewer
 pub decimal_same : (k n : ℕ) → 1 ≤ k → n < 10 ^ k → n < 2 ^ 32 → decimal n ≡ decimal_in k n
-decimal_same k n h l m = decimal_is 10 n (omega arith) (omega arith) m ∙ sym (decimal_is k n h l m)
+decimal_same k n h l m = sym (decimal_whole n m) ∙ sym (decimal_is k n h l m)
 
 pub decimal_length : (k n : ℕ) → length (decimal_in k n) ≤ k
 unfolding decimal_in

@@ -1,7 +1,7 @@
 // Numbers in decimal, written into a lent slice: the program's line.
 #![tactic(auto)]
 
-ghost use Rattle.std.specs.Prelude.{◌≡◌, ◌∷◌, [], ◌+◌, ◌^◌, ◌≤◌, ◌<◌, length};
+ghost use Rattle.std.specs.Prelude.{◌∷◌, [], ◌+◌, ◌^◌, ◌≤◌, ◌<◌, length};
 ghost use Rattle.paper.specs.Lists.{each};
 ghost use Rattle.paper.specs.Program as paper;
 ghost use Rattle.line.specs.Written.{Writes};
@@ -16,12 +16,12 @@ struct Writer<'a> {
 }
 
 impl<'a> Writer<'a> {
+    ghost use Rattle.line.specs.Adds.{Adds};
+
     // Bytes more.
     fn push(&mut self, bytes: &[u8])
         requires { self.old.at + length bytes.now ≤ length self.old.out.now }
-        ensures same { self.new.out.ghost_name ≡ self.old.out.ghost_name }
-        ensures len { length self.new.out.now ≡ length self.old.out.now }
-        ensures written { Writes self.old.at bytes.now self.old.out.now self.new.out.now self.new.at }
+        ensures { Adds bytes.now self.old self.new }
     {
         let end = self.at + bytes.len();
         self.out[self.at..end].copy_from_slice(bytes);
@@ -31,9 +31,7 @@ impl<'a> Writer<'a> {
     // A number.
     fn number(&mut self, n: u32)
         requires { self.old.at + length (paper.decimal n) ≤ length self.old.out.now }
-        ensures same { self.new.out.ghost_name ≡ self.old.out.ghost_name }
-        ensures len { length self.new.out.now ≡ length self.old.out.now }
-        ensures written { Writes self.old.at (paper.decimal n) self.old.out.now self.new.out.now self.new.at }
+        ensures { Adds (paper.decimal n) self.old self.new }
     {
         self.push(Buffer::new().format(n).as_bytes());
     }
@@ -41,9 +39,7 @@ impl<'a> Writer<'a> {
     // A space, then a number.
     fn spaced(&mut self, n: u32)
         requires { self.old.at + 11 ≤ length self.old.out.now }
-        ensures same { self.new.out.ghost_name ≡ self.old.out.ghost_name }
-        ensures len { length self.new.out.now ≡ length self.old.out.now }
-        ensures written { Writes self.old.at (paper.spaced n) self.old.out.now self.new.out.now self.new.at }
+        ensures { Adds (paper.spaced n) self.old self.new }
     {
         self.push(b" ");
         self.number(n);
@@ -52,9 +48,7 @@ impl<'a> Writer<'a> {
     // Entries.
     fn entries(&mut self, s: &[u8])
         requires { (length s.now ≤ 8) × (self.old.at + 88 ≤ length self.old.out.now) }
-        ensures same { self.new.out.ghost_name ≡ self.old.out.ghost_name }
-        ensures len { length self.new.out.now ≡ length self.old.out.now }
-        ensures written { Writes self.old.at (each s.now paper.spaced) self.old.out.now self.new.out.now self.new.at }
+        ensures { Adds (each s.now paper.spaced) self.old self.new }
     {
         for e in s {
             self.spaced(u32::from(*e));

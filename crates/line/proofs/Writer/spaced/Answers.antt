@@ -1,5 +1,5 @@
 use native.Mathlib.Omega.{arith}
-use Rattle.line.proofs.Laws.{decimal_length, writes_more}
+use Rattle.line.proofs.Laws.{decimal_length, adds_more}
 use Rattle.line.proofs.Writer.spaced.Goals as goal
 
 pub number-requires : goal.number-requires
@@ -10,5 +10,5 @@ number-requires c = let w = c.push.ensures.written in
     let l = c.push.ensures.len in
     omega arith
 
-pub returns-clause-written : goal.returns-clause-written
-returns-clause-written c = writes_more c.push.ensures.written (let p = c.requires in omega arith) c.number.ensures.written
+pub returns : goal.returns
+returns c = adds_more (let p = c.requires in omega arith) c.push.ensures c.number.ensures
