@@ -40,7 +40,7 @@ fn more(n: u64, digit: u8) -> u64
     ensures { result ≡ spec.more n digit }
 {
     if n < 4294967296 {
-        return 10 * n + (digit % 16) as u64;
+        return 10 * n + u64::from(digit % 16);
     }
     n
 }
@@ -91,6 +91,7 @@ impl<const N: usize> Bytes<N> {
     }
 
     // A 32-bit number more, low byte first.
+    #[tactic(auto, using(crate::proofs::Laws::added_twice))]
     pub fn long(self, n: u32) -> Bytes<N>
         ensures { take result.end result.all ≡ added N (take self.entry.end self.entry.all) (two n ++ two (n / 65536)) }
     {
