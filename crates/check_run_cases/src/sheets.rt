@@ -1,6 +1,7 @@
 // Sheets as bytes: rows one after the other, and the trailer.
 
-// The sheet is bytes[from..end]. An array and no `Vec`, so that making a sheet cannot run out of memory.
+// The sheet is bytes[from..end]. An array and no `Vec`, so that making a sheet cannot run out of memory. Not `text`'s bytes: those are lent
+// from the first on and only grow, and here numbers are also replaced and the first bytes left out.
 #[derive(Clone, Copy)]
 pub struct Sheet {
     pub bytes: [u8; 512],

@@ -8,7 +8,8 @@ mod tables;
 
 use std::io;
 
-// As much of the input is read.
+// As much of the input is read. Each program of cases has this `main`: one function over both would take the cases as a closure, and a
+// call of it would be as long.
 const MOST: usize = 65536;
 
 fn main(rt: HostRuntime) -> io::Result<()> {

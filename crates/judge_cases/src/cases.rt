@@ -58,7 +58,8 @@ fn try_line(rt: &impl Print, g: Given, text: &[u8]) -> io::Result<Given> {
     Ok(given)
 }
 
-// Each line of the input, in each program of cases by its own `try_line`: lent as a closure it would leave no shorter a loop.
+// Each line of the input. Each program of cases has this loop: one function over both would take `try_line` as a closure, and a call of it
+// would be as long as the loop.
 pub fn try_all(rt: &impl Print, text: &[u8]) -> io::Result<()> {
     let mut given = Given::new();
     for line in text.split(|b| *b == b'\n') {
