@@ -22,7 +22,7 @@ use Rattle.std.specs.List.{find, range_with_len}
 use Rattle.std.specs.Option.{option_or}
 use Rattle.sheet.specs.declared.Part.{Part}
 use Rattle.sheet.specs.declared.Sheet as accepted
-use Rattle.sheet.specs.Contents.{contents, read_as}
+use Rattle.sheet.specs.Contents.{read_as}
 use Rattle.sheet.specs.Reading.{Whole, width, bad_row, first_bad, first_in, numbers, row_below, pair, fives, pairs_of, fives_of}
 
 -- bytes whose counts are within their bounds and agree with the file's length
@@ -154,12 +154,15 @@ module _ (b : List ℕ) where
       leb-true 16 (length b) h.0
 
 -- ---- what read's answer says of decode
-pub record Taken (b : List ℕ) (s : accepted.Sheet) : Type 0 where
-  pub sheet : decode b ≡ Ok (contents s)
-  pub holds : Whole s.parts.bytes.now s.parts.trailer
+pub record Taken (b : List ℕ) (t : Trailer) : Type 0 where
+  pub sheet : decode b ≡ Ok (sheet_of b t)
+  pub holds : Whole b t
 
-pub taken : (b : List ℕ) (s : accepted.Sheet) → read_as (Ok s) ≡ decode b → Taken b s
-taken b s e = record { sheet = sym e; holds = s.parts.whole }
+pub taken : (b : List ℕ) (s : accepted.Sheet) → read_as (Ok s) ≡ decode b → s.parts.bytes.now ≡ b → Taken b s.parts.trailer
+taken b s e is = record {
+  sheet = sym e ∙ ap (λ x. Ok (sheet_of x s.parts.trailer)) is;
+  holds = subst (λ x. Whole x s.parts.trailer) is s.parts.whole;
+}
 
 pub not_taken : (b : List ℕ) (f : Fault) → read_as (Err f) ≡ decode b → decode b ≡ Err f
 not_taken b f e = sym e
