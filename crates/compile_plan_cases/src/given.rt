@@ -26,7 +26,8 @@ impl Kind {
     }
 }
 
-// The sheet, the call's numbers and how many of them are told, and the length of the answer slice, which is 20 until a line tells it.
+// The sheet, the call's numbers and how many of them are told (the others are as they were told before, so they are no `Vec`), and the length of the
+// answer slice, which is 20 until a line tells it.
 #[derive(Clone, Copy)]
 pub struct Given {
     pub sheet: Bytes<512>,

@@ -15,15 +15,11 @@ pub fn fresh(alloc: Global) -> Result<Vec<u8>, AllocError>
     vec![in alloc; LENT; 1048608]
 }
 
-// Where, of the first n bytes, those at the end begin that are b.
-fn front(bytes: &[u8], n: usize, b: u8) -> usize
-    requires { n ≤ length bytes.now }
-    ensures { result ≤ n }
+// Where the bytes at the end begin that are b.
+fn front(bytes: &[u8], b: u8) -> usize
+    ensures { result ≤ length bytes.now }
 {
-    bytes[..n]
-        .iter()
-        .rposition(|x| *x != b)
-        .map_or(0, |i| i + 1)
+    bytes.iter().rposition(|x| *x != b).map_or(0, |i| i + 1)
 }
 
 // A sum that depends on the bytes' order.
@@ -57,8 +53,8 @@ fn print_table(rt: &impl Print, bytes: &[u8]) -> io::Result<()> {
 
 // A line: the rows, then how many bytes are zero and how many are as they were lent.
 pub fn line_rows(rt: &impl Print, bytes: &[u8]) -> io::Result<()> {
-    let end = front(bytes, bytes.len(), LENT);
-    let last = front(bytes, end, 0);
+    let end = front(bytes, LENT);
+    let last = front(&bytes[..end], 0);
     let whole = last.next_multiple_of(16);
     if whole <= end {
         print_table(rt, &bytes[..whole])?;

@@ -33,7 +33,7 @@ fn constant(table: Bytes<4096>, kind: u32) -> Bytes<4096> {
     table.long(kind).long(0).long(0).long(0)
 }
 
-// The sheet, the table, the call (horizon, count, root, state) and how many of its numbers are told, the masks, and the
+// The sheet, the table, the call (horizon, count, root, state) and how many of its numbers are told (the others are as before, so no `Vec`), the masks, and the
 // length of the answer slice, which is above 12 until a line tells it.
 #[derive(Clone, Copy)]
 pub struct Given {

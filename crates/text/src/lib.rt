@@ -71,7 +71,7 @@ impl<const N: usize> Bytes<N> {
         }
     }
 
-    // A number's low byte more, where there is room.
+    // A number's low byte more, where there is room; by a remainder, as the clause says it.
     pub fn byte(mut self, n: u32) -> Bytes<N>
         ensures { take result.end result.all ≡ added N (take self.entry.end self.entry.all) (n % 256 ∷ []) }
     {
