@@ -62,7 +62,8 @@ class Item:
         m = re.match(r"([^\s(){}:]+)(.*)$", head)
         if not m or self.kind != "item":
             return squeeze(self.said())
-        return squeeze(m.group(1) + " : " + re.sub(r"(?<=[)}]) → (?=[({])", " ", self.premises + m.group(2) + " → " + tail))
+        parts = [p.strip() for p in (self.premises, m.group(2), tail) if p.strip()]
+        return squeeze(m.group(1) + " : " + re.sub(r"(?<=[)}]) → (?=[({])", " ", " → ".join(parts)))
 
 
 def source(files, private=False):
@@ -254,7 +255,7 @@ def lay(old, new, moved, lang, also=lambda a: True, where=False, fresh=True, els
         title = "`%s`" % a.full() + (" (%s)" % a.path if where else "")
         if b is None:
             show(title, a.said(), target(a, moved) or "GONE", lang)
-        elif b.same() != a.same():
+        elif b.said() != a.said():
             if b.full() != a.full():
                 title += ", now `%s`" % b.full()
             if where and b.path != a.path:
