@@ -1,7 +1,7 @@
 // What the programs read: standard input into a lent buffer, and in the text of cases lines and the numbers in them.
 #![tactic(auto)]
 
-ghost use Rattle.std.specs.Prelude.{◌≡◌, [], ◌∷◌, ◌++◌, ◌<◌, ◌≤◌, ◌/◌, ◌%◌, length, take, IfOk};
+ghost use Rattle.std.specs.Prelude.{◌≡◌, [], ◌∷◌, ◌++◌, ◌<◌, ◌≤◌, ◌-◌, ◌/◌, ◌%◌, length, take, drop, IfOk};
 ghost use Rattle.text.specs.Numbers as spec;
 ghost use Rattle.text.specs.Lent.{added, two};
 
@@ -35,6 +35,24 @@ pub fn find(text: &[u8], from: usize, b: u8) -> usize
         .map_or(text.len(), |i| from + i)
 }
 
+// A number that was read, and the place behind it.
+#[derive(Clone, Copy)]
+pub struct Word {
+    pub value: u32,
+    pub end: usize,
+}
+
+// The first digit from a place on, or the end.
+pub fn find_digit(text: &[u8], from: usize) -> usize
+    requires { from ≤ length text.now }
+    ensures { (from ≤ result) × (result ≤ length text.now) }
+{
+    match text[from..].iter().position(|x| x.is_ascii_digit()) {
+        Some(i) => from + i,
+        None => text.len(),
+    }
+}
+
 // A digit more, while the number is below 2^32.
 fn more(n: u64, digit: u8) -> u64
     ensures { result ≡ spec.more n digit }
@@ -51,6 +69,22 @@ pub fn value(digits: &[u8]) -> u32
 {
     let n = digits.iter().fold(0, |n, digit| more(n, *digit));
     (n % 4294967296) as u32
+}
+
+// The decimal number at a digit's place, up to what is no digit or to the end.
+pub fn number(text: &[u8], from: usize) -> Word
+    requires { from < length text.now }
+    ensures places { (from < result.end) × (result.end ≤ length text.now) }
+    ensures number { result.value ≡ spec.number (take (result.end - from) (drop from text.now)) }
+{
+    let end = text[from + 1..]
+        .iter()
+        .position(|x| !x.is_ascii_digit())
+        .map_or(text.len(), |i| from + 1 + i);
+    Word {
+        value: value(&text[from..end]),
+        end,
+    }
 }
 
 // The bytes are all[..end]. An array and no `Vec`, so that no number of a line can run out of memory.
