@@ -15,6 +15,7 @@ use Rattle.paper.specs.Sheet.{Sheet, trailer, trailer_length, body_at, body_leng
 use Rattle.paper.specs.Step.{need_of, rule_of}
 use Rattle.paper.proofs.Basic.{and_e, by}
 use Rattle.paper.proofs.Decoded.{within_bounded, length_count}
+use Rattle.paper.proofs.Decoded as decoded
 use Rattle.bits.proofs.Filled.{value_at_lem, rows_of, map_below}
 use Rattle.sheet.specs.declared.Part.TheVariants.{Needs, Rules, Clauses}
 use Rattle.std.specs.Prelude.{Some, None, Ok, Err}
@@ -158,8 +159,16 @@ pub record Taken (b : List ℕ) (t : Trailer) : Type 0 where
   pub sheet : decode b ≡ Ok (sheet_of b t)
   pub holds : Whole b t
 
-pub taken : (b : List ℕ) (s : accepted.Sheet) → read_as (Ok s) ≡ decode b → s.parts.bytes.now ≡ b → Taken b s.parts.trailer
-taken b s e is = record {
+-- of bytes that decode accepts
+pub taken : (b : List ℕ) (p : Sheet) → decode b ≡ Ok p → Taken b (trailer b)
+taken b p q = let a = decoded.accepted b p q in record {
+  sheet = q ∙ ap Ok (sym a.sheet_is);
+  holds = whole_of b a.bounds a.back_is a.length_is;
+}
+
+-- of an accepted sheet that read gave
+pub taken_read : (b : List ℕ) (s : accepted.Sheet) → read_as (Ok s) ≡ decode b → s.parts.bytes.now ≡ b → Taken b s.parts.trailer
+taken_read b s e is = record {
   sheet = sym e ∙ ap (λ x. Ok (sheet_of x s.parts.trailer)) is;
   holds = subst (λ x. Whole x s.parts.trailer) is s.parts.whole;
 }
