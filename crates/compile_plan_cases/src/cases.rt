@@ -63,13 +63,14 @@ fn try_print(rt: &impl Print, g: Given, label: &[u8]) -> io::Result<()> {
 }
 
 // The numbers of a line of this kind. Each program of cases has these lines for its own `Given`: a function of `text` over both would owe
-// a contract, and std's `split` does not say which its parts are.
+// a contract, and std's `split` does not say which its parts are. A loop: what a closure of `fold` is given and gives is copied once more.
 fn take(g: Given, kind: Kind, text: &[u8]) -> Given {
-    text.split(|b| !b.is_ascii_digit())
-        .filter(|digits| !digits.is_empty())
-        .fold(g.begin(kind), |given, digits| {
-            given.put(kind, value(digits))
-        })
+    let mut given = g.begin(kind);
+    let numbers = text.split(|b| !b.is_ascii_digit());
+    for digits in numbers.filter(|digits| !digits.is_empty()) {
+        given = given.put(kind, value(digits));
+    }
+    given
 }
 
 // A line: its first byte is its kind; its numbers stand behind a colon, in front of which a case has its label.

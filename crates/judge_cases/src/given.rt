@@ -60,14 +60,13 @@ impl Given {
 
     // A line of this kind begins.
     pub fn begin(mut self, kind: Kind) -> Given {
-        let none = Bytes::new();
         match kind {
-            Kind::Sheet => self.sheet = none,
-            Kind::Table => self.table = none,
-            Kind::Rows => self.table = constant(constant(none, 0), 1),
+            Kind::Sheet => self.sheet = Bytes::new(),
+            Kind::Table => self.table = Bytes::new(),
+            Kind::Rows => self.table = constant(constant(Bytes::new(), 0), 1),
             Kind::Case => {
                 self.told = 0;
-                self.masks = none;
+                self.masks = Bytes::new();
             }
             Kind::Length | Kind::Answer => {}
         }
