@@ -271,7 +271,7 @@ def went(old, new):
     """by crate, what is gone of proofs/ and of the private functions, what lost pub, and what says something else"""
     proofs, now_proofs = definitions(old, "proofs"), definitions(new, "proofs")
     now, _ = pairs(proofs, now_proofs + definitions(new, "specs"), {})
-    for crate in sorted({i.crate for i in proofs}):
+    for crate in sorted({i.crate for i in proofs + source(old, True)}):
         mine = [i for i in proofs if i.crate == crate]
         gone = [i for i in mine if id(i) not in now]
         less = [i for i in mine if id(i) in now and i.public and not now[id(i)].public]
